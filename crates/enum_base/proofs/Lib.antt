@@ -1,0 +1,4 @@
+mod DecimalLemmas
+pub mod OutsideLemmas
+pub mod PaddingLemmas
+mod ShelfLemmas

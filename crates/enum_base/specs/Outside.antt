@@ -1,0 +1,38 @@
+-- What shelves and sinks tell of their bytes (this project's own). What is not told is `None`.
+use Rattle.std.specs.Prelude.{◌≡◌, ℕ, List, [], ◌++◌, take, drop, find, bytes_eq, unwrap_or, IsSome, IsTrue, ◌↔◌, Bool, Option, Some, None, option_map, ⊤}
+
+-- a file as a shelf tells it: its name and its bytes
+abbrev pub File : Type 0
+File = List ℕ × List ℕ
+
+-- the bytes of the first file of that name
+abbrev pub file_of : List File → List ℕ → Option (List ℕ)
+file_of files name = option_map (λ file. file.1) (find (λ file. bytes_eq file.0 name) files)
+
+-- a fetch finds exactly the names that are on the shelf
+abbrev pub Finds : Option (List File) → List ℕ → Bool → Type 0
+Finds None name found = ⊤
+Finds (Some files) name found = IsTrue found ↔ IsSome (file_of files name)
+
+-- after a fetch the bytes of the first file of that name are left, and nothing where there is none
+abbrev pub Opens : Option (List File) → List ℕ → Option (List ℕ) → Type 0
+Opens None name left = ⊤
+Opens (Some files) name left = left ≡ Some (unwrap_or (file_of files name) [])
+
+-- these are the first n bytes of those left
+abbrev pub AreFirst : ℕ → List ℕ → Option (List ℕ) → Type 0
+AreFirst n given None = ⊤
+AreFirst n given (Some left) = given ≡ take n left
+
+-- what is left after the first n bytes
+abbrev pub after : ℕ → Option (List ℕ) → Option (List ℕ)
+after n left = option_map (λ bytes. drop n bytes) left
+
+-- nothing is given exactly where nothing is left
+abbrev pub EndsAtEnd : ℕ → Option (List ℕ) → Type 0
+EndsAtEnd n None = ⊤
+EndsAtEnd n (Some left) = (n ≡ 0) ↔ (left ≡ [])
+
+-- the bytes held, with more behind them
+abbrev pub with_more : Option (List ℕ) → List ℕ → Option (List ℕ)
+with_more held more = option_map (λ bytes. bytes ++ more) held
