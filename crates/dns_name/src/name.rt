@@ -1,0 +1,150 @@
+//! Domain names, as one row of wire bytes.
+ghost use Rattle.std.specs.Prelude.{◌≡◌, ◌<◌, ◌≤◌, ◌+◌, ◌↔◌, [], ◌∷◌, ◌++◌, length, take, drop, IsTrue};
+ghost use Rattle.enum_base.specs.Padding.{padded};
+
+use enum_base::fold_byte;
+use std::marker::Model;
+
+/// A domain name of at most 255 bytes on the wire (RFC 1035, 2.3.4). Contracts see its labels, the
+/// leftmost first.
+#[derive(Clone, Copy, Debug, PartialEq, Eq)]
+pub struct Name {
+    row: [u8; 255],
+    len: u8,
+}
+
+impl Model for Name {
+    ghost use Rattle.std.specs.Prelude.{List, ℕ, length, take};
+    ghost use Rattle.std.proofs.Common.{ap, ◌∙◌};
+    ghost use Rattle.enum_base.specs.Padding.{padded};
+
+    ghost Value = { List (List ℕ) };
+
+    ghost use Rattle.dns_name.specs.Name.{labels_of, wire_of, IsRow};
+
+    ghost view = { λ n. labels_of (take n.len n.row) };
+
+    ghost invariant = { λ n. IsRow n.len n.row };
+
+    ghost inverse = { λ labels. record { row = padded 255 (wire_of labels); len = length (wire_of labels) } };
+
+    ghost inverse_ok = { λ n h i. record {
+      row = (ap (padded 255) h.spelt.wire ∙ h.rest) i;
+      len = (ap length h.spelt.wire ∙ h.front) i;
+    } };
+}
+
+impl Name {
+    ghost use Rattle.dns_name.specs.Name.{wire_of, labels_of, folded_labels, name_within, AreSame, IsBelow, IsName, IsWire};
+
+    /// The root.
+    pub fn root() -> Name
+        ensures { result ≡ [] }
+    {
+        Name {
+            row: [0; 255],
+            len: 1,
+        }
+    }
+
+    /// The wire form, without compression (RFC 1035, 3.1).
+    pub fn wire(&self) -> &[u8]
+        ensures value { result.now ≡ wire_of self.now }
+        ensures name { IsName self.now }
+    {
+        &self.row[..self.len as usize]
+    }
+
+    /// The name with `A` to `Z` made small (RFC 4343).
+    pub fn fold(&self) -> Name
+        ensures { result ≡ folded_labels self.now }
+    {
+        let mut row = self.row;
+        for byte in row.iter_mut() {
+            *byte = fold_byte(*byte);
+        }
+        Name { row, len: self.len }
+    }
+
+    /// Whether the two are equal but for the case of ASCII letters (RFC 4343).
+    pub fn same(&self, other: &Name) -> bool
+        ensures { IsTrue result ↔ AreSame self.now other.now }
+    {
+        self.fold() == other.fold()
+    }
+
+    /// Whether this name is the other or lies below it, without regard to case.
+    pub fn is_below(&self, other: &Name) -> bool
+        ensures { IsTrue result ↔ IsBelow self.now other.now }
+    {
+        let name = self.fold();
+        let above = other.fold();
+        let top = above.wire();
+        let mut rest = name.wire();
+        while rest.len() > top.len() {
+            rest = split_first(rest).1;
+        }
+        rest == top
+    }
+
+    /// The name of one label.
+    pub(crate) fn of_label(label: &[u8]) -> Name
+        requires some { 0 < length label.now }
+        requires most { length label.now ≤ 63 }
+        ensures { result ≡ label.now ∷ [] }
+    {
+        Name {
+            row: row_of(&[label.len() as u8], label),
+            len: label.len() as u8 + 2,
+        }
+    }
+
+    /// These labels and then those of the other name, or `None` where they would pass 255 bytes.
+    pub(crate) fn followed_by(&self, other: &Name) -> Option<Name>
+        ensures { result ≡ name_within (self.now ++ other.now) }
+    {
+        let front = self.wire();
+        let front = &front[..front.len() - 1];
+        let back = other.wire();
+        if front.len() + back.len() > 255 {
+            return None;
+        }
+        Some(Name {
+            row: row_of(front, back),
+            len: (front.len() + back.len()) as u8,
+        })
+    }
+}
+
+// Copies the bytes into the row from that cell on.
+fn put(row: &mut [u8], at: usize, bytes: &[u8])
+    requires { at + length bytes.now ≤ length row.old }
+    ensures { row.new ≡ take at row.old ++ (bytes.now ++ drop (at + length bytes.now) row.old) }
+{
+    row[at..at + bytes.len()].copy_from_slice(bytes);
+}
+
+// The bytes of both in a row, and zeros behind them.
+fn row_of(front: &[u8], back: &[u8]) -> [u8; 255]
+    requires { length front.now + length back.now ≤ 255 }
+    ensures { result ≡ padded 255 (front.now ++ back.now) }
+{
+    let mut row = [0; 255];
+    put(&mut row, 0, front);
+    put(&mut row, front.len(), back);
+    row
+}
+
+ghost use Rattle.dns_name.specs.Name.{IsWire, labels_of};
+
+/// The first label of wire bytes that are not the root's, and the wire bytes after it.
+pub fn split_first(wire: &[u8]) -> (&[u8], &[u8])
+    requires name { IsWire wire.now }
+    requires more { 1 < length wire.now }
+    ensures labels { labels_of wire.now ≡ result.0.now ∷ labels_of result.1.now }
+    ensures rest { IsWire result.1.now }
+    ensures sum { length result.0.now + length result.1.now + 1 ≡ length wire.now }
+{
+    let size = wire[0] as usize;
+    (&wire[1..size + 1], &wire[size + 1..])
+}

@@ -1,0 +1,126 @@
+//! Names as text.
+ghost use Rattle.std.specs.Prelude.{◌≡◌, ◌<◌, ◌≤◌, ◌++◌, ◌↔◌, List, ℕ, length, OnOk, OnErr, option_and_then};
+ghost use Rattle.dns_name.specs.Name.{wire_of, name_within};
+ghost use Rattle.dns_name.specs.Reading.{name_of, reading_of, with_label};
+ghost use Rattle.dns_name.specs.Text.{labels_lent};
+
+use crate::fault::NameFault;
+use crate::label::Label;
+use crate::name::{Name, split_first};
+use crate::piece::Piece;
+use crate::written::Written;
+use enum_base::{Bytes, MemoryFault};
+
+impl Name {
+    ghost use Rattle.dns_name.specs.Text.{text_of, StandsFor, IsRelative, HasEmptyLabel, HasLongLabel, HasBadEscape};
+
+    /// The name that a text stands for (RFC 1035, 5.1). Labels are separated by `.`; `\DDD` is the byte of
+    /// that decimal number, `\X` with X no digit is X; a text without a last `.` has the labels of the
+    /// origin appended. Of several faults the first by place is told, then `NoOrigin`, then `NameTooLong`.
+    pub fn from_text(text: &[u8], origin: Option<&Name>) -> Result<Name, NameFault>
+        ensures value { result ≡ name_of text.now (labels_lent origin.entry) }
+
+        // Which texts are accepted.
+        ensures accepted { (labels : List (List ℕ)) → (result ≡ Ok labels)
+            ↔ (StandsFor text.now (labels_lent origin.entry) labels × (length (wire_of labels) ≤ 255)) }
+
+        // When each fault is told, and its place.
+        ensures empty_label { (at : ℕ) → (result ≡ Err (NameFault.EmptyLabel at)) ↔ HasEmptyLabel text.now at }
+        ensures label_too_long { (at : ℕ) → (result ≡ Err (NameFault.LabelTooLong at)) ↔ HasLongLabel text.now at }
+        ensures bad_escape { (at : ℕ) → (result ≡ Err (NameFault.BadEscape at)) ↔ HasBadEscape text.now at }
+        ensures no_origin { (result ≡ Err NameFault.NoOrigin)
+            ↔ ((labels_lent origin.entry ≡ None) × ((own : List (List ℕ)) × IsRelative text.now own)) }
+        ensures name_too_long { (result ≡ Err NameFault.NameTooLong)
+            ↔ ((labels : List (List ℕ)) × StandsFor text.now (labels_lent origin.entry) labels × (255 < length (wire_of labels))) }
+    {
+        parse(text, origin)
+    }
+
+    /// Appends the text of the name: each label with a `.` behind it, or `.` alone for the root.
+    pub fn to_text(&self, out: &mut Bytes) -> Result<(), MemoryFault>
+        ensures ok { OnOk result (out.new ≡ out.old ++ text_of self.now) }
+        ensures err { OnErr result (out.new ≡ out.old) }
+    {
+        let mut text = Written::new();
+        let mut rest = self.wire();
+        if rest.len() == 1 {
+            text.push(b'.');
+        }
+        while rest.len() > 1 {
+            let (label, after) = split_first(rest);
+            text.push_label(label);
+            rest = after;
+        }
+        out.push_slice(text.as_slice())
+    }
+}
+
+// What a text stands for under an origin.
+fn parse(text: &[u8], origin: Option<&Name>) -> Result<Name, NameFault>
+    ensures { result ≡ name_of text.now (labels_lent origin.entry) }
+{
+    let (own, absolute) = read(text)?;
+    let whole = if absolute {
+        own
+    } else {
+        let Some(origin) = origin else {
+            return Err(NameFault::NoOrigin);
+        };
+        joined(own, origin)
+    };
+    whole.ok_or(NameFault::NameTooLong)
+}
+
+// The labels of both, while they fit a name.
+fn joined(front: Option<Name>, back: &Name) -> Option<Name>
+    ensures { result ≡ option_and_then (λ labels. name_within (labels ++ back.now)) front }
+{
+    front?.followed_by(back)
+}
+
+// One label more, while the name fits.
+fn extended(labels: Option<Name>, label: &Label) -> Option<Name>
+    requires { 0 < length label.now }
+    ensures { result ≡ with_label labels label.now }
+{
+    joined(labels, &Name::of_label(label.as_slice()))
+}
+
+// The labels of a text while they fit a name, and whether the text is absolute.
+fn read(text: &[u8]) -> Result<(Option<Name>, bool), NameFault>
+    ensures { result ≡ reading_of text.now }
+{
+    if text == b".".as_slice() {
+        return Ok((Some(Name::root()), true));
+    }
+    let mut labels = Some(Name::root());
+    let mut label = Label::new();
+    let mut start = 0;
+    let mut at = 0;
+    while at < text.len() {
+        match Piece::first(&text[at..]) {
+            Piece::Broken => return Err(NameFault::BadEscape { at }),
+            Piece::Dot if label.is_empty() => return Err(NameFault::EmptyLabel { at: start }),
+            Piece::Dot => {
+                labels = extended(labels, &label);
+                label = Label::new();
+                at += 1;
+                start = at;
+            }
+            Piece::Byte(_, _) if label.is_full() => {
+                return Err(NameFault::LabelTooLong { at: start });
+            }
+            Piece::Byte(byte, more) => {
+                label.push(byte);
+                at += more + 1;
+            }
+        }
+    }
+    if !label.is_empty() {
+        Ok((extended(labels, &label), false))
+    } else if start == 0 {
+        Err(NameFault::EmptyLabel { at: 0 })
+    } else {
+        Ok((labels, true))
+    }
+}
