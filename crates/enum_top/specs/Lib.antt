@@ -1,0 +1,13 @@
+pub mod Answers
+pub mod Digits
+pub mod Edges
+pub mod FaultLines
+pub mod Number
+pub mod Plain
+pub mod PlainReading
+pub mod Printing
+pub mod Report
+pub mod Running
+pub mod Status
+pub mod Words
+pub mod Writing
