@@ -1,0 +1,4 @@
+mod CutLemmas
+mod OneSplit
+mod PieceLemmas
+mod SplitLemmas
