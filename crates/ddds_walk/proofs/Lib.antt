@@ -1,0 +1,10 @@
+pub mod Lists
+pub mod Order
+pub mod Graphs
+pub mod Walked
+pub mod Steps
+pub mod Moves
+pub mod Answer
+pub mod Counts
+pub mod Theorems
+pub mod Tells
