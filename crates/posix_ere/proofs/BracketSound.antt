@@ -1,0 +1,688 @@
+-- What the machine has read of a bracket.
+use Rattle.std.proofs.Common.{ℕ, zero, suc, ◌≡◌, ◌≢◌, ◌+◌, ◌<◌, ◌≤◌, Bool, true, false, not, ◌&&◌, ◌||◌, ◌==◌, List, [], ◌∷◌, ◌++◌, length, take, drop, get_or, refl, sym, ◌∙◌, ap, subst, arith, ◌⊎◌, inl, inr, Option, Some, None, append_assoc, nat_le, nat_lt}
+use Rattle.std.specs.Prelude.{if◌then◌else◌}
+use Rattle.std.proofs.lemmas.Bool.Decides.{nat_tests}
+use Rattle.std.proofs.lemmas.List.{append-nil}
+use Rattle.std.proofs.Math.Seq.{take-length}
+use Rattle.posix_ere.specs.Ascii.{is_printable}
+use Rattle.posix_ere.specs.Reasons.{InItems, IsItemPart}
+use Rattle.std.proofs.lemmas.List.{take-append-drop}
+use Rattle.posix_ere.specs.Bracket.{Item, IsBracket, name_of, spelled, body, sign, begins, goes_on_as_range, is_element, is_item, are_items, opens}
+use Rattle.posix_ere.specs.Bracket.Item.{single, range, members}
+use Rattle.posix_ere.specs.BracketMachine.{marked, phase_step, begin_item, list_step, element_step, named, first_class, next_class, turned, at_phase, class_fault}
+use Rattle.posix_ere.specs.Machine.{no_marks}
+use Rattle.posix_ere.specs.declared.why.Why.{Why}
+use Rattle.posix_ere.specs.declared.why.Why.TheVariants as w
+use Rattle.posix_ere.specs.declared.class.Class.{Class}
+use Rattle.posix_ere.specs.declared.class.Class.TheVariants as class
+use Rattle.posix_ere.specs.declared.bracket.Bracket.{Bracket}
+use Rattle.posix_ere.specs.declared.bracket.Phase.{Phase}
+use Rattle.posix_ere.specs.declared.bracket.Phase.TheVariants as phase
+use Rattle.posix_ere.specs.declared.bracket.Listing.{Listing}
+use Rattle.posix_ere.specs.declared.bracket.Listing.TheVariants as listing
+use Rattle.posix_ere.proofs.IntervalRuns.{both}
+use Rattle.posix_ere.proofs.BracketRuns.{marks_on, head, is_not, same_byte, other_byte, not_same, same_or_not, class_head}
+
+-- whether no item was read yet
+abbrev pub fresh : List Item → Bool
+fresh [] = true
+fresh (i ∷ is) = false
+
+-- what was read after the last whole item
+abbrev pub tail : Phase → List ℕ
+tail phase.Start = []
+tail phase.First = []
+tail phase.Next = []
+tail (phase.Element e) = e ∷ []
+tail (phase.Dash e) = e ∷ 45 ∷ []
+tail phase.Inner = 91 ∷ []
+tail (phase.RangeInner e) = e ∷ 45 ∷ 91 ∷ []
+tail phase.Last = 45 ∷ []
+tail phase.ClassStart = 91 ∷ 58 ∷ []
+tail (phase.ClassName c k) = 91 ∷ 58 ∷ take k (name_of c)
+tail (phase.ClassEnd c) = 91 ∷ 58 ∷ (name_of c ++ 58 ∷ [])
+
+-- an element that may begin a range
+pub record Opener (negated : Bool) (first : Bool) (e : ℕ) : Type 0 where
+  pub printable : is_printable e ≡ true
+  pub closes : first ≡ false → e ≢ 93
+  pub hyphen : first ≡ false → e ≢ 45
+  pub circumflex : first ≡ true → (negated || not (e == 94)) ≡ true
+
+abbrev pub PhaseFits : Bool → Bool → Phase → Type 0
+PhaseFits negated first phase.Start = (first ≡ true) × (negated ≡ false)
+PhaseFits negated first phase.First = (first ≡ true) × (negated ≡ true)
+PhaseFits negated first phase.Next = first ≡ false
+PhaseFits negated first (phase.Element e) = Opener negated first e × (e ≢ 91)
+PhaseFits negated first (phase.Dash e) = Opener negated first e
+PhaseFits negated first phase.Inner = Unit {0}
+PhaseFits negated first (phase.RangeInner e) = Opener negated first e × (e ≤ 91)
+PhaseFits negated first phase.Last = first ≡ false
+PhaseFits negated first phase.ClassStart = Unit {0}
+PhaseFits negated first (phase.ClassName c k) = (1 ≤ k) × (k ≤ length (name_of c))
+PhaseFits negated first (phase.ClassEnd c) = Unit {0}
+
+pub record Listed (z : List ℕ) (negated : Bool) (marks : List Bool) (p : Phase) : Type 0 where
+  pub is : List Item
+  pub text : z ≡ sign negated ++ (body is ++ tail p)
+  pub marks_are : marks ≡ marks_on is no_marks
+  pub items : (r : List ℕ) → opens negated is (tail p ++ r) ≡ true
+  pub fits : PhaseFits negated (fresh is) p
+
+-- one more item at the end
+marks_on-more : (is : List Item) (i : Item) (m : List Bool) → marks_on (is ++ i ∷ []) m ≡ marked i (marks_on is m)
+unfolding marks_on
+marks_on-more [] i m = refl
+marks_on-more (j ∷ is) i m = marks_on-more is i (marked j m)
+
+body-more : (is : List Item) (i : Item) (r : List ℕ) → body (is ++ i ∷ []) ++ r ≡ body is ++ (spelled i ++ r)
+body-more [] i r = ap (λ x. x ++ r) (append-nil (spelled i))
+body-more (j ∷ is) i r =
+    append_assoc (spelled j) (body (is ++ i ∷ [])) r ∙ (ap (λ x. spelled j ++ x) (body-more is i r) ∙ sym (append_assoc (spelled j) (body is) (spelled i ++ r)))
+
+and_true : (p q : Bool) → p ≡ true → q ≡ true → (p && q) ≡ true
+and_true true q h g = g
+and_true false q h g = absurd (cc)
+
+items_more : (first : Bool) (is : List Item) (i : Item) (r : List ℕ) → are_items first is (spelled i ++ r) ≡ true → is_item (first && fresh is) i r ≡ true
+    → are_items first (is ++ i ∷ []) r ≡ true
+items_more true [] i r h v = and_true (is_item true i r) true v refl
+items_more false [] i r h v = and_true (is_item false i r) true v refl
+items_more first (j ∷ is) i r h v =
+    let a = both (is_item first j (body is ++ (spelled i ++ r))) (are_items false is (spelled i ++ r)) h in
+    let x : is_item first j (body (is ++ i ∷ []) ++ r) ≡ true = ap (is_item first j) (body-more is i r) ∙ a.0 in
+    let y : is_item (false && fresh is) i r ≡ true = ap (λ f. is_item f i r) (not_first first) ∙ v in
+    and_true (is_item first j (body (is ++ i ∷ []) ++ r)) (are_items false (is ++ i ∷ []) r) x (items_more false is i r a.1 y)
+  where
+    not_first : (f : Bool) → false ≡ (f && false)
+    not_first true = refl
+    not_first false = refl
+
+begins_append : (test : ℕ → Bool) (j : Item) (is : List Item) (i : Item) → begins test (body ((j ∷ is) ++ i ∷ [])) ≡ begins test (body (j ∷ is))
+begins_append test (single e) is i = refl
+begins_append test (range e f) is i = refl
+begins_append test (members c) is i = refl
+
+begins_head : (test : ℕ → Bool) (i : Item) → begins test (body (i ∷ [])) ≡ test (head i)
+unfolding head
+begins_head test (single e) = refl
+begins_head test (range e f) = refl
+begins_head test (members c) = refl
+
+opens_more : (negated : Bool) (is : List Item) (i : Item) (r : List ℕ) → opens negated is (spelled i ++ r) ≡ true → is_item (fresh is) i r ≡ true
+    → (fresh is ≡ true → (negated || not (head i == 94)) ≡ true) → opens negated (is ++ i ∷ []) r ≡ true
+opens_more negated [] i r h v g =
+    let a = both (are_items true [] (spelled i ++ r)) (negated || true) h in
+    and_true (are_items true (i ∷ []) r) (negated || not (begins (λ b. b == 94) (body (i ∷ []))))
+    (items_more true [] i r a.0 v) (ap (λ x. negated || not x) (begins_head (λ b. b == 94) i) ∙ g refl)
+opens_more negated (j ∷ is) i r h v g =
+    let a = both (are_items true (j ∷ is) (spelled i ++ r)) (negated || not (begins (λ b. b == 94) (body (j ∷ is)))) h in
+    and_true (are_items true ((j ∷ is) ++ i ∷ []) r) (negated || not (begins (λ b. b == 94) (body ((j ∷ is) ++ i ∷ []))))
+    (items_more true (j ∷ is) i r a.0 v) (ap (λ x. negated || not x) (begins_append (λ b. b == 94) j is i) ∙ a.1)
+
+fresh_more : (is : List Item) (i : Item) → fresh (is ++ i ∷ []) ≡ false
+fresh_more [] i = refl
+fresh_more (j ∷ is) i = refl
+
+some_more : (is : List Item) (i : Item) → is ++ i ∷ [] ≡ [] → ⊥
+some_more [] i e = cc
+some_more (j ∷ is) i e = cc
+
+-- a byte that ends no item
+pub kept : (z : List ℕ) (negated : Bool) (marks : List Bool) (p q : Phase) (b : ℕ) (l : Listed z negated marks p) → tail p ++ b ∷ [] ≡ tail q
+    → PhaseFits negated (fresh l.is) q → Listed (z ++ b ∷ []) negated marks q
+kept z negated marks p q b l e f = record {
+  is = l.is;
+  text = ap (λ x. x ++ b ∷ []) l.text ∙ (append_assoc (sign negated) (body l.is ++ tail p) (b ∷ [])
+      ∙ ap (λ x. sign negated ++ x) (append_assoc (body l.is) (tail p) (b ∷ []) ∙ ap (λ x. body l.is ++ x) e));
+  marks_are = l.marks_are;
+  items = λ r. ap (opens negated l.is) (ap (λ x. x ++ r) (sym e) ∙ append_assoc (tail p) (b ∷ []) r) ∙ l.items (b ∷ r);
+  fits = f;
+}
+
+-- a byte with which an item ends
+pub emitted : (z : List ℕ) (negated : Bool) (marks : List Bool) (p q : Phase) (b : ℕ) (i : Item) (l : Listed z negated marks p)
+    → tail p ++ b ∷ [] ≡ spelled i ++ tail q → ((r : List ℕ) → is_item (fresh l.is) i (tail q ++ r) ≡ true)
+    → (fresh l.is ≡ true → (negated || not (head i == 94)) ≡ true) → PhaseFits negated false q → Listed (z ++ b ∷ []) negated (marked i marks) q
+emitted z negated marks p q b i l e v g f = record {
+  is = l.is ++ i ∷ [];
+  text = ap (λ x. x ++ b ∷ []) l.text ∙ (append_assoc (sign negated) (body l.is ++ tail p) (b ∷ [])
+      ∙ ap (λ x. sign negated ++ x) (append_assoc (body l.is) (tail p) (b ∷ []) ∙ (ap (λ x. body l.is ++ x) e ∙ sym (body-more l.is i (tail q)))));
+  marks_are = ap (marked i) l.marks_are ∙ sym (marks_on-more l.is i no_marks);
+  items = λ r. opens_more negated l.is i (tail q ++ r)
+      (ap (opens negated l.is) (sym (append_assoc (spelled i) (tail q) r) ∙ (ap (λ x. x ++ r) (sym e) ∙ append_assoc (tail p) (b ∷ []) r)) ∙ l.items (b ∷ r))
+      (v r) g;
+  fits = subst (λ x. PhaseFits negated x q) (sym (fresh_more l.is i)) f;
+}
+
+-- a bracket that is closed
+pub record Closed (z : List ℕ) (b : ℕ) (negated : Bool) (marks : List Bool) : Type 0 where
+  pub byte : b ≡ 93
+  pub is : List Item
+  pub marks_are : marks ≡ marks_on is no_marks
+  pub bracket : IsBracket (91 ∷ (z ++ 93 ∷ [])) negated is
+
+not_fresh : (is : List Item) → is ≡ [] → fresh is ≡ false → ⊥
+not_fresh is h f = let g : true ≡ false = sym (ap fresh h) ∙ f in cc
+
+pub closed_next : (z : List ℕ) (b : ℕ) (negated : Bool) (marks : List Bool) → Listed z negated marks phase.Next → b ≡ 93 → Closed z b negated marks
+closed_next z b negated marks l e = record {
+  byte = e;
+  is = l.is;
+  marks_are = l.marks_are;
+  bracket = record {
+    text = ap (λ x. 91 ∷ (x ++ 93 ∷ [])) (l.text ∙ ap (λ x. sign negated ++ x) (append-nil (body l.is)))
+        ∙ ap (λ x. 91 ∷ x) (append_assoc (sign negated) (body l.is) (93 ∷ []));
+    items = l.items (93 ∷ []);
+    some = λ h. not_fresh l.is h l.fits;
+  };
+}
+
+-- a bracket that is closed after an item that ends with the closing
+pub closed_item : (z : List ℕ) (b : ℕ) (negated : Bool) (marks : List Bool) (p : Phase) (i : Item) (l : Listed z negated marks p) → b ≡ 93 → tail p ≡ spelled i
+    → is_item (fresh l.is) i (93 ∷ []) ≡ true → (fresh l.is ≡ true → (negated || not (head i == 94)) ≡ true) → Closed z b negated (marked i marks)
+closed_item z b negated marks p i l e t v g = record {
+  byte = e;
+  is = l.is ++ i ∷ [];
+  marks_are = ap (marked i) l.marks_are ∙ sym (marks_on-more l.is i no_marks);
+  bracket = record {
+    text = ap (λ x. 91 ∷ (x ++ 93 ∷ [])) l.text ∙ ap (λ x. 91 ∷ x) (append_assoc (sign negated) (body l.is ++ tail p) (93 ∷ [])
+        ∙ ap (λ x. sign negated ++ x) (append_assoc (body l.is) (tail p) (93 ∷ []) ∙ (ap (λ x. body l.is ++ (x ++ 93 ∷ [])) t ∙ sym (body-more l.is i (93 ∷ [])))));
+    items = opens_more negated l.is i (93 ∷ []) (ap (λ x. opens negated l.is (x ++ 93 ∷ [])) (sym t) ∙ l.items (93 ∷ [])) v g;
+    some = some_more l.is i;
+  };
+}
+
+-- an element that may begin a range stands as an item
+not_is : (p : Bool) → p ≡ false → not p ≡ true
+not_is true h = absurd (cc)
+not_is false h = refl
+
+unless : (first : Bool) (e c : ℕ) → (first ≡ false → e ≢ c) → (first || not (e == c)) ≡ true
+unless true e c h = refl
+unless false e c h = not_is (e == c) (other_byte e c (h refl))
+
+no_mark : (e : ℕ) (q : Bool) → (e ≡ 91 → q ≡ false) → (e ≡ 91) ⊎ (e ≢ 91) → not (e == 91 && q) ≡ true
+no_mark e q h (inl a) = let k : (e == 91) ≡ true = rw a refl in rw (k, h a) refl
+no_mark e q h (inr b) = rw (other_byte e 91 b) refl
+
+pub opener_element : (negated first : Bool) (e : ℕ) (r : List ℕ) → Opener negated first e
+    → (e ≡ 91 → begins (λ b. b == 46 || b == 61 || b == 58) r ≡ false) → is_element first e r ≡ true
+opener_element negated first e r o h =
+    and_true (is_printable e && (first || not (e == 93))) (not (e == 91 && begins (λ b. b == 46 || b == 61 || b == 58) r))
+    (and_true (is_printable e) (first || not (e == 93)) o.printable (unless first e 93 o.closes))
+    (no_mark e (begins (λ b. b == 46 || b == 61 || b == 58) r) h (same_or_not e 91))
+
+or_left : (p q : Bool) → p ≡ true → (p || q) ≡ true
+or_left true q h = refl
+or_left false q h = absurd (cc)
+
+pub opener_single : (negated first : Bool) (e : ℕ) (r : List ℕ) → Opener negated first e
+    → (e ≡ 91 → begins (λ b. b == 46 || b == 61 || b == 58) r ≡ false) → goes_on_as_range r ≡ false → is_item first (single e) r ≡ true
+opener_single negated first e r o h g =
+    and_true (is_element first e r && not (goes_on_as_range r)) (first || not (e == 45) || begins (λ b. b == 93) r)
+    (and_true (is_element first e r) (not (goes_on_as_range r)) (opener_element negated first e r o h) (not_is (goes_on_as_range r) g))
+    (or_left (first || not (e == 45)) (begins (λ b. b == 93) r) (unless first e 45 o.hyphen))
+
+at_least : (a b : ℕ) → a ≤ b → nat_le a b ≡ true
+at_least a b h = grind (arith, nat_tests)
+
+pub opener_range : (negated first : Bool) (e f : ℕ) (r : List ℕ) → Opener negated first e → is_element false f r ≡ true → e ≤ f → is_item first (range e f) r ≡ true
+opener_range negated first e f r o v l =
+    and_true (is_element first e (45 ∷ []) && (first || not (e == 45)) && is_element false f r) (nat_le e f)
+    (and_true (is_element first e (45 ∷ []) && (first || not (e == 45))) (is_element false f r)
+    (and_true (is_element first e (45 ∷ [])) (first || not (e == 45)) (opener_element negated first e (45 ∷ []) o (λ h. refl)) (unless first e 45 o.hyphen)) v)
+    (at_least e f l)
+
+goes_not : (b : ℕ) (r : List ℕ) → b ≢ 45 → goes_on_as_range (b ∷ r) ≡ false
+goes_not b [] h = refl
+goes_not b (c ∷ r) h = rw (other_byte b 45 h) refl
+
+-- the second part of a range
+pub range_end : (f : ℕ) (r : List ℕ) → is_printable f ≡ true → f ≢ 93 → (f ≡ 91 → begins (λ b. b == 46 || b == 61 || b == 58) r ≡ false) → is_element false f r ≡ true
+range_end f r p c h =
+    and_true (is_printable f && (false || not (f == 93))) (not (f == 91 && begins (λ b. b == 46 || b == 61 || b == 58) r))
+    (and_true (is_printable f) (false || not (f == 93)) p (unless false f 93 (λ x. c)))
+    (no_mark f (begins (λ b. b == 46 || b == 61 || b == 58) r) h (same_or_not f 91))
+
+-- a range's element and `-`, both single, and the closing
+pub closed_two : (z : List ℕ) (b : ℕ) (negated : Bool) (marks : List Bool) (e : ℕ) (l : Listed z negated marks (phase.Dash e)) → b ≡ 93
+    → Closed z b negated (marked (single 45) (marked (single e) marks))
+unfolding head
+closed_two z b negated marks e l h =
+    let i = single e in
+    let is = l.is ++ i ∷ [] in
+    let v = opener_single negated (fresh l.is) e (45 ∷ 93 ∷ []) l.fits (λ x. refl) refl in
+    let a = opens_more negated l.is i (45 ∷ 93 ∷ []) (l.items (93 ∷ [])) v l.fits.circumflex in
+    let c : is_item (fresh is) (single 45) (93 ∷ []) ≡ true = ap (λ f. is_item f (single 45) (93 ∷ [])) (fresh_more l.is i) in
+    let d = opens_more negated is (single 45) (93 ∷ []) a c (λ f. absurd (let g : true ≡ false = sym f ∙ fresh_more l.is i in cc)) in
+    record {
+      byte = h;
+      is = is ++ single 45 ∷ [];
+      marks_are = ap (λ m. marked (single 45) (marked i m)) l.marks_are ∙ (ap (marked (single 45)) (sym (marks_on-more l.is i no_marks)) ∙ sym (marks_on-more is (single 45) no_marks));
+      bracket = record {
+        text = ap (λ x. 91 ∷ (x ++ 93 ∷ [])) l.text ∙ ap (λ x. 91 ∷ x) (append_assoc (sign negated) (body l.is ++ e ∷ 45 ∷ []) (93 ∷ [])
+            ∙ ap (λ x. sign negated ++ x) (append_assoc (body l.is) (e ∷ 45 ∷ []) (93 ∷ []) ∙ (sym (body-more l.is i (45 ∷ 93 ∷ [])) ∙ sym (body-more is (single 45) (93 ∷ [])))));
+        items = d;
+        some = some_more is (single 45);
+      };
+    }
+
+below_len : (a b : ℕ) → nat_lt a b ≡ true → a < b
+below_len a b h = grind (arith, nat_tests)
+
+-- whether the beginning of an item is no closing
+pub opener_closes : (is : List Item) (negated : Bool) (e : ℕ) → Opener negated (fresh is) e → (e == 93) ≡ true → is ≡ []
+opener_closes [] negated e o h = refl
+opener_closes (i ∷ is) negated e o h = absurd (o.closes refl (same_byte e 93 h))
+
+pub tail_unclosed : (is : List Item) (negated : Bool) (p : Phase) → PhaseFits negated (fresh is) p → begins (λ b. b == 93) (tail p) ≡ true → is ≡ []
+tail_unclosed is negated phase.Start f h = absurd (cc)
+tail_unclosed is negated phase.First f h = absurd (cc)
+tail_unclosed is negated phase.Next f h = absurd (cc)
+tail_unclosed is negated (phase.Element e) f h = opener_closes is negated e f.0 h
+tail_unclosed is negated (phase.Dash e) f h = opener_closes is negated e f h
+tail_unclosed is negated phase.Inner f h = absurd (cc)
+tail_unclosed is negated (phase.RangeInner e) f h = opener_closes is negated e f.0 h
+tail_unclosed is negated phase.Last f h = absurd (cc)
+tail_unclosed is negated phase.ClassStart f h = absurd (cc)
+tail_unclosed is negated (phase.ClassName c k) f h = absurd (cc)
+tail_unclosed is negated (phase.ClassEnd c) f h = absurd (cc)
+
+pub name_again : (c : Class) (k : ℕ) → name_of c ++ 58 ∷ 93 ∷ [] ≡ take k (name_of c) ++ (drop k (name_of c) ++ 58 ∷ 93 ∷ [])
+name_again c k =
+    ap (λ x. x ++ 58 ∷ 93 ∷ []) (sym (take-append-drop k (name_of c))) ∙ append_assoc (take k (name_of c)) (drop k (name_of c)) (58 ∷ 93 ∷ [])
+
+some_left : (xs : List ℕ) (y : ℕ) (ys : List ℕ) → xs ++ y ∷ ys ≡ [] → ⊥
+some_left [] y ys e = cc
+some_left (x ∷ xs) y ys e = cc
+
+pub tail_part : (p : Phase) → IsItemPart (tail p)
+tail_part phase.Start = inl (single 97, 97 ∷ [], refl, some_left [] 97 [])
+tail_part phase.First = inl (single 97, 97 ∷ [], refl, some_left [] 97 [])
+tail_part phase.Next = inl (single 97, 97 ∷ [], refl, some_left [] 97 [])
+tail_part (phase.Element e) = inl (range e e, 45 ∷ e ∷ [], refl, some_left [] 45 (e ∷ []))
+tail_part (phase.Dash e) = inl (range e e, e ∷ [], refl, some_left [] e [])
+tail_part phase.Inner = inl (range 91 91, 45 ∷ 91 ∷ [], refl, some_left [] 45 (91 ∷ []))
+tail_part (phase.RangeInner e) = inr (e, refl)
+tail_part phase.Last = inl (range 45 45, 45 ∷ 45 ∷ [], refl, some_left [] 45 (45 ∷ []))
+tail_part phase.ClassStart = inl (members class.Alpha, name_of class.Alpha ++ 58 ∷ 93 ∷ [], refl, some_left (name_of class.Alpha) 58 (93 ∷ []))
+tail_part (phase.ClassName c k) =
+    inl (members c, drop k (name_of c) ++ 58 ∷ 93 ∷ [], ap (λ x. 91 ∷ 58 ∷ x) (name_again c k), some_left (drop k (name_of c)) 58 (93 ∷ []))
+tail_part (phase.ClassEnd c) = inl (members c, 93 ∷ [], ap (λ x. 91 ∷ 58 ∷ x) (sym (append_assoc (name_of c) (58 ∷ []) (93 ∷ []))), some_left [] 93 [])
+
+abbrev pub part_of : (z : List ℕ) (negated : Bool) (marks : List Bool) (p : Phase) → Listed z negated marks p → InItems z (tail p)
+part_of z negated marks p l = record {
+  negated = negated;
+  is = l.is;
+  text = l.text;
+  items = l.items;
+  part = tail_part p;
+  unclosed = tail_unclosed l.is negated p l.fits;
+}
+
+-- inside a class name or its closing
+abbrev pub ClassWhy : List ℕ → Type 0
+ClassWhy z = (c : Class) × (x : List ℕ) × (r : List ℕ) × (name_of c ++ 58 ∷ 93 ∷ [] ≡ x ++ r) × (r ≡ [] → ⊥) × InItems z (91 ∷ 58 ∷ x)
+
+-- why a byte is refused after this text of a bracket
+abbrev pub BracketWhy : List ℕ → ℕ → Why → Type 0
+BracketWhy z b w.NotAscii = is_printable b ≡ false
+BracketWhy z b w.Collating =
+    (is_printable b ≡ true) × ((b == 46 || b == 61) ≡ true) × (InItems z (91 ∷ []) ⊎ ((e : ℕ) × InItems z (e ∷ 45 ∷ 91 ∷ [])))
+BracketWhy z b w.BadClass = (is_printable b ≡ true) × ClassWhy z
+BracketWhy z b w.BadRange =
+    (is_printable b ≡ true) × (b ≢ 93) × (((e : ℕ) × (b < e) × InItems z (e ∷ 45 ∷ []))
+    ⊎ (((e : ℕ) × (b ≡ 58) × InItems z (e ∷ 45 ∷ 91 ∷ [])) ⊎ ((h : InItems z (45 ∷ [])) × (h.is ≡ [] → ⊥))))
+BracketWhy z b _ = ⊥
+
+mark_printable : (b : ℕ) → (b == 46 || b == 61) ≡ true → is_printable b ≡ true
+mark_printable b h = either_byte (or_cases (b == 46) (b == 61) h)
+  where
+    or_cases : (p q : Bool) → (p || q) ≡ true → (p ≡ true) ⊎ (q ≡ true)
+    or_cases true q h = inl refl
+    or_cases false q h = inr h
+
+    either_byte : ((b == 46) ≡ true) ⊎ ((b == 61) ≡ true) → is_printable b ≡ true
+    either_byte (inl e) = subst (λ x. is_printable x ≡ true) (sym (same_byte b 46 e)) refl
+    either_byte (inr e) = subst (λ x. is_printable x ≡ true) (sym (same_byte b 61 e)) refl
+
+fault_class : (z : List ℕ) (b : ℕ) (t : Bool) → is_printable b ≡ t → ClassWhy z → BracketWhy z b (if t then w.BadClass else w.NotAscii)
+fault_class z b true h c = (h, c)
+fault_class z b false h c = h
+
+no_closing : (b : ℕ) → b ≡ 58 → b ≢ 93
+no_closing b e h = let f : ◌≡◌ {A = ℕ} 58 93 = sym e ∙ h in absurd (omega arith)
+
+-- what one more byte makes of a bracket
+abbrev pub Outcome : List ℕ → ℕ → Listing → Type 0
+Outcome z b (listing.More k) = Listed (z ++ b ∷ []) k.negated k.marks k.phase
+Outcome z b (listing.Done negated marks) = Closed z b negated marks
+Outcome z b (listing.Broken why) = BracketWhy z b why
+
+close_bracket : ◌≢◌ {A = ℕ} 93 91
+close_bracket e = absurd (omega arith)
+
+hyphen_not : (b : ℕ) (first : Bool) → (b == 45 && not first) ≡ false → first ≡ false → b ≢ 45
+hyphen_not b true h x = absurd (cc)
+hyphen_not b false h x = not_same b 45 (left_false (b == 45) h)
+  where
+    left_false : (v : Bool) → (v && true) ≡ false → v ≡ false
+    left_false true h = h
+    left_false false h = refl
+
+-- a byte with which an item may begin
+record Ready (z : List ℕ) (b : ℕ) (negated : Bool) (marks : List Bool) (first : Bool) : Type 0 where
+  go : (q : Phase) → tail q ≡ b ∷ [] → PhaseFits negated first q → Listed (z ++ b ∷ []) negated marks q
+  close : first ≡ false → b ≡ 93 → Closed z b negated marks
+  circumflex : first ≡ true → (negated || not (b == 94)) ≡ true
+
+begin_closes : (z : List ℕ) (b : ℕ) (negated : Bool) (marks : List Bool) (first : Bool) → Ready z b negated marks first → b ≡ 93
+    → Outcome z b (if first then at_phase negated marks (phase.Element b) else listing.Done negated marks)
+begin_closes z b negated marks true r e =
+    r.go (phase.Element b) refl (
+      record {
+        printable = subst (λ x. is_printable x ≡ true) (sym e) refl;
+        closes = λ x. absurd (cc);
+        hyphen = λ x. absurd (cc);
+        circumflex = λ x. r.circumflex refl;
+      },
+      λ x. close_bracket (sym e ∙ x),
+    )
+begin_closes z b negated marks false r e = r.close refl e
+
+begin_plain : (z : List ℕ) (b : ℕ) (negated : Bool) (marks : List Bool) (first : Bool) (x p : Bool) → Ready z b negated marks first
+    → (b == 93) ≡ false → (b == 91) ≡ false → (b == 45 && not first) ≡ x → is_printable b ≡ p
+    → Outcome z b (if x then at_phase negated marks phase.Last else (if p then at_phase negated marks (phase.Element b) else listing.Broken w.NotAscii))
+begin_plain z b negated marks first true p r c d h v =
+    let q = both (b == 45) (not first) h in
+    r.go phase.Last (ap (λ y. y ∷ []) (sym (same_byte b 45 q.0))) (is_not first q.1)
+begin_plain z b negated marks first false true r c d h v =
+    r.go (phase.Element b) refl (
+      record {
+        printable = v;
+        closes = λ x. not_same b 93 c;
+        hyphen = λ x. hyphen_not b first h x;
+        circumflex = r.circumflex;
+      },
+      not_same b 91 d,
+    )
+begin_plain z b negated marks first false false r c d h v = v
+
+begin_sound : (z : List ℕ) (b : ℕ) (negated : Bool) (marks : List Bool) (first : Bool) (c d : Bool) → Ready z b negated marks first
+    → (b == 93) ≡ c → (b == 91) ≡ d
+    → Outcome z b (if c then (if first then at_phase negated marks (phase.Element b) else listing.Done negated marks)
+    else (if d then at_phase negated marks phase.Inner
+    else (if b == 45 && not first then at_phase negated marks phase.Last
+    else (if is_printable b then at_phase negated marks (phase.Element b) else listing.Broken w.NotAscii))))
+begin_sound z b negated marks first true d r e f = begin_closes z b negated marks first r (same_byte b 93 e)
+begin_sound z b negated marks first false true r e f = r.go phase.Inner (ap (λ y. y ∷ []) (sym (same_byte b 91 f))) tt
+begin_sound z b negated marks first false false r e f = begin_plain z b negated marks first (b == 45 && not first) (is_printable b) r e f refl refl
+
+-- nothing is pending: an item may begin
+ready_kept : (z : List ℕ) (b : ℕ) (negated : Bool) (marks : List Bool) (p : Phase) (first : Bool) (l : Listed z negated marks p) → tail p ≡ [] → fresh l.is ≡ first
+    → (first ≡ false → b ≡ 93 → Closed z b negated marks) → (first ≡ true → (negated || not (b == 94)) ≡ true) → Ready z b negated marks first
+ready_kept z b negated marks p first l t f c g = record {
+  go = λ q e h. kept z negated marks p q b l (ap (λ x. x ++ b ∷ []) t ∙ sym e) (subst (λ x. PhaseFits negated x q) (sym f) h);
+  close = c;
+  circumflex = g;
+}
+
+-- an item ends where another begins
+ready_emitted : (z : List ℕ) (b : ℕ) (negated : Bool) (marks : List Bool) (p : Phase) (i : Item) (l : Listed z negated marks p) → tail p ≡ spelled i
+    → ((r : List ℕ) → is_item (fresh l.is) i (b ∷ r) ≡ true) → (b ≡ 93 → is_item (fresh l.is) i (93 ∷ []) ≡ true)
+    → (fresh l.is ≡ true → (negated || not (head i == 94)) ≡ true) → Ready z b negated (marked i marks) false
+ready_emitted z b negated marks p i l t v c g = record {
+  go = λ q e h. emitted z negated marks p q b i l (ap (λ x. x ++ b ∷ []) t ∙ ap (λ x. spelled i ++ x) (sym e))
+      (λ r. ap (λ x. is_item (fresh l.is) i (x ++ r)) e ∙ v r) g h;
+  close = λ f e. closed_item z b negated marks p i l e t (c e) g;
+  circumflex = λ f. absurd (cc);
+}
+
+start_sound : (z : List ℕ) (b : ℕ) (negated : Bool) (marks : List Bool) (x : Bool) → Listed z negated marks phase.Start → (b == 94) ≡ x
+    → Outcome z b (if x then at_phase true marks phase.First else begin_item true false marks b)
+start_sound z b negated marks true l h = started z b negated marks l.is l.text l.marks_are l.fits (same_byte b 94 h)
+  where
+    started : (z : List ℕ) (b : ℕ) (negated : Bool) (marks : List Bool) (is : List Item) → z ≡ sign negated ++ (body is ++ []) → marks ≡ marks_on is no_marks
+        → (fresh is ≡ true) × (negated ≡ false) → b ≡ 94 → Listed (z ++ b ∷ []) true marks phase.First
+    started z b negated marks [] t m (f, g) h = record {
+      is = [];
+      text = ap (λ x. x ++ b ∷ []) (t ∙ ap (λ x. sign x ++ []) g) ∙ ap (λ x. x ∷ []) h;
+      marks_are = m;
+      items = λ r. refl;
+      fits = (refl, refl);
+    }
+    started z b negated marks (i ∷ is) t m (f, g) h = absurd (cc)
+start_sound z b negated marks false l h =
+    let l2 : Listed z false marks phase.Start = subst (λ x. Listed z x marks phase.Start) l.fits.1 l in
+    begin_sound z b false marks true (b == 93) (b == 91)
+    (ready_kept z b false marks phase.Start true l2 refl l2.fits.0 (λ f. absurd (cc)) (λ f. not_is (b == 94) h)) refl refl
+
+-- an element that ends, or begins a range
+element_sound : (z : List ℕ) (b : ℕ) (negated : Bool) (marks : List Bool) (p : Phase) (e : ℕ) (l : Listed z negated marks p) (x : Bool) → tail p ≡ e ∷ []
+    → Opener negated (fresh l.is) e → (e ≡ 91 → (b == 46 || b == 61 || b == 58) ≡ false) → (b == 45) ≡ x
+    → Outcome z b (if x then at_phase negated marks (phase.Dash e) else begin_item false negated (marked (single e) marks) b)
+unfolding head
+element_sound z b negated marks p e l true t o m h =
+    kept z negated marks p (phase.Dash e) b l (ap (λ y. y ++ b ∷ []) t ∙ ap (λ y. e ∷ y ∷ []) (same_byte b 45 h)) o
+element_sound z b negated marks p e l false t o m h =
+    begin_sound z b negated (marked (single e) marks) false (b == 93) (b == 91)
+    (ready_emitted z b negated marks p (single e) l t
+    (λ r. opener_single negated (fresh l.is) e (b ∷ r) o m (goes_not b r (not_same b 45 h)))
+    (λ y. opener_single negated (fresh l.is) e (93 ∷ []) o (λ k. refl) refl) o.circumflex) refl refl
+
+not_less_than : (a b : ℕ) → nat_lt a b ≡ false → b ≤ a
+not_less_than a b h = grind (arith, nat_tests)
+
+dash_sound : (z : List ℕ) (b : ℕ) (negated : Bool) (marks : List Bool) (e : ℕ) (l : Listed z negated marks (phase.Dash e)) (c p s d : Bool)
+    → (b == 93) ≡ c → is_printable b ≡ p → nat_lt b e ≡ s → (b == 91) ≡ d
+    → Outcome z b (if c then listing.Done negated (marked (single 45) (marked (single e) marks))
+    else (if not p then listing.Broken w.NotAscii
+    else (if s then listing.Broken w.BadRange
+    else (if d then at_phase negated marks (phase.RangeInner e)
+    else at_phase negated (marked (range e b) marks) phase.Next))))
+unfolding head
+dash_sound z b negated marks e l true p s d f g h i = closed_two z b negated marks e l (same_byte b 93 f)
+dash_sound z b negated marks e l false false s d f g h i = g
+dash_sound z b negated marks e l false true true d f g h i =
+    (g, not_same b 93 f, inl (e, below_len b e h, part_of z negated marks (phase.Dash e) l))
+dash_sound z b negated marks e l false true false true f g h i =
+    let n = same_byte b 91 i in
+    let k : e ≤ 91 = subst (λ x. e ≤ x) n (not_less_than b e h) in
+    kept z negated marks (phase.Dash e) (phase.RangeInner e) b l (ap (λ y. e ∷ 45 ∷ y ∷ []) n) (l.fits, k)
+dash_sound z b negated marks e l false true false false f g h i =
+    emitted z negated marks (phase.Dash e) phase.Next b (range e b) l refl
+    (λ r. opener_range negated (fresh l.is) e b r l.fits (range_end b r g (not_same b 93 f) (λ x. absurd (not_same b 91 i x))) (not_less_than b e h))
+    l.fits.circumflex refl
+
+bracket_opener : (negated first : Bool) → Opener negated first 91
+bracket_opener negated first = record {
+  printable = refl;
+  closes = λ f e. close_bracket (sym e);
+  hyphen = λ f. class_head;
+  circumflex = λ f. or_true negated;
+}
+  where
+    or_true : (v : Bool) → (v || true) ≡ true
+    or_true true = refl
+    or_true false = refl
+
+inner_sound : (z : List ℕ) (b : ℕ) (negated : Bool) (marks : List Bool) (l : Listed z negated marks phase.Inner) (m c : Bool)
+    → (b == 46 || b == 61) ≡ m → (b == 58) ≡ c
+    → Outcome z b (if m then listing.Broken w.Collating else (if c then at_phase negated marks phase.ClassStart else element_step 91 negated marks b))
+inner_sound z b negated marks l true c f g = (mark_printable b f, f, inl (part_of z negated marks phase.Inner l))
+inner_sound z b negated marks l false true f g =
+    kept z negated marks phase.Inner phase.ClassStart b l (ap (λ y. 91 ∷ y ∷ []) (same_byte b 58 g)) tt
+inner_sound z b negated marks l false false f g =
+    element_sound z b negated marks phase.Inner 91 l (b == 45) refl (bracket_opener negated (fresh l.is)) (λ x. neither (b == 46 || b == 61) (b == 58) f g) refl
+  where
+    neither : (p q : Bool) → p ≡ false → q ≡ false → (p || q) ≡ false
+    neither p q h k = rw h k
+
+range_inner_sound : (z : List ℕ) (b : ℕ) (negated : Bool) (marks : List Bool) (e : ℕ) (l : Listed z negated marks (phase.RangeInner e)) (m c : Bool)
+    → (b == 46 || b == 61) ≡ m → (b == 58) ≡ c
+    → Outcome z b (if m then listing.Broken w.Collating else (if c then listing.Broken w.BadRange else begin_item false negated (marked (range e 91) marks) b))
+unfolding head
+range_inner_sound z b negated marks e l true c f g = (mark_printable b f, f, inr (e, part_of z negated marks (phase.RangeInner e) l))
+range_inner_sound z b negated marks e l false true f g =
+    let x = same_byte b 58 g in
+    (subst (λ y. is_printable y ≡ true) (sym x) refl, no_closing b x, inr (inl (e, x, part_of z negated marks (phase.RangeInner e) l)))
+range_inner_sound z b negated marks e l false false f g =
+    let k : (b == 46 || b == 61 || b == 58) ≡ false = rw (f, g) refl in
+    begin_sound z b negated (marked (range e 91) marks) false (b == 93) (b == 91)
+    (ready_emitted z b negated marks (phase.RangeInner e) (range e 91) l refl
+    (λ r. opener_range negated (fresh l.is) e 91 (b ∷ r) l.fits.0 (range_end 91 (b ∷ r) refl (λ x. close_bracket (sym x)) (λ x. k)) l.fits.1)
+    (λ y. opener_range negated (fresh l.is) e 91 (93 ∷ []) l.fits.0 refl l.fits.1) l.fits.0.circumflex) refl refl
+
+last_sound : (z : List ℕ) (b : ℕ) (negated : Bool) (marks : List Bool) (l : Listed z negated marks phase.Last) (c p : Bool) → (b == 93) ≡ c → is_printable b ≡ p
+    → Outcome z b (if c then listing.Done negated (marked (single 45) marks) else (if p then listing.Broken w.BadRange else listing.Broken w.NotAscii))
+last_sound z b negated marks l true p h v =
+    closed_item z b negated marks phase.Last (single 45) l (same_byte b 93 h) refl
+    (ap (λ f. is_item f (single 45) (93 ∷ [])) l.fits) (λ f. absurd (let g : true ≡ false = sym f ∙ l.fits in cc))
+last_sound z b negated marks l false true h v =
+    (v, not_same b 93 h, inr (inr (part_of z negated marks phase.Last l, λ x. not_fresh l.is x l.fits)))
+last_sound z b negated marks l false false h v = v
+
+class_start_why : (z : List ℕ) (negated : Bool) (marks : List Bool) → Listed z negated marks phase.ClassStart → ClassWhy z
+class_start_why z negated marks l =
+    (class.Alpha, [], name_of class.Alpha ++ 58 ∷ 93 ∷ [], refl, some_left (name_of class.Alpha) 58 (93 ∷ []), part_of z negated marks phase.ClassStart l)
+
+class_name_why : (z : List ℕ) (negated : Bool) (marks : List Bool) (c : Class) (k : ℕ) → Listed z negated marks (phase.ClassName c k) → ClassWhy z
+class_name_why z negated marks c k l =
+    (c, take k (name_of c), drop k (name_of c) ++ 58 ∷ 93 ∷ [], name_again c k, some_left (drop k (name_of c)) 58 (93 ∷ []), part_of z negated marks (phase.ClassName c k) l)
+
+class_end_why : (z : List ℕ) (negated : Bool) (marks : List Bool) (c : Class) → Listed z negated marks (phase.ClassEnd c) → ClassWhy z
+class_end_why z negated marks c l =
+    (c, name_of c ++ 58 ∷ [], 93 ∷ [], sym (append_assoc (name_of c) (58 ∷ []) (93 ∷ [])), some_left [] 93 [], part_of z negated marks (phase.ClassEnd c) l)
+
+first_or : (b k : ℕ) (x : Class) (rest : Option Class) (c : Class) (t : Bool) → (b == k) ≡ t → k ∷ [] ≡ take 1 (name_of x)
+    → (rest ≡ Some c → b ∷ [] ≡ take 1 (name_of c)) → (if t then Some x else rest) ≡ Some c → b ∷ [] ≡ take 1 (name_of c)
+first_or b k x rest c true h e f g =
+    let y : x ≡ c = cc in
+    ap (λ q. q ∷ []) (same_byte b k h) ∙ (e ∙ ap (λ q. take 1 (name_of q)) y)
+first_or b k x rest c false h e f g = f g
+
+first_letter : (b : ℕ) (c : Class) → first_class b ≡ Some c → b ∷ [] ≡ take 1 (name_of c)
+first_letter b c =
+    first_or b 97 class.Alnum _ c (b == 97) refl refl (first_or b 98 class.Blank _ c (b == 98) refl refl (first_or b 99 class.Cntrl _ c (b == 99) refl refl
+    (first_or b 100 class.Digit _ c (b == 100) refl refl (first_or b 103 class.Graph _ c (b == 103) refl refl (first_or b 108 class.Lower _ c (b == 108) refl refl
+    (first_or b 112 class.Print _ c (b == 112) refl refl (first_or b 115 class.Space _ c (b == 115) refl refl (first_or b 117 class.Upper _ c (b == 117) refl refl
+    (first_or b 120 class.Xdigit None c (b == 120) refl refl (λ h. absurd (cc)))))))))))
+
+-- so many letters of a class name and one more
+record Letter (c : Class) (k b : ℕ) (d : Class) : Type 0 where
+  is_next : take k (name_of c) ++ b ∷ [] ≡ take (k + 1) (name_of d)
+  fits : k + 1 ≤ length (name_of d)
+
+name_some : (c : Class) → 1 ≤ length (name_of c)
+name_some class.Alnum = omega arith
+name_some class.Alpha = omega arith
+name_some class.Blank = omega arith
+name_some class.Cntrl = omega arith
+name_some class.Digit = omega arith
+name_some class.Graph = omega arith
+name_some class.Lower = omega arith
+name_some class.Print = omega arith
+name_some class.Punct = omega arith
+name_some class.Space = omega arith
+name_some class.Upper = omega arith
+name_some class.Xdigit = omega arith
+
+pub take_next : (k : ℕ) (xs : List ℕ) → k < length xs → take k xs ++ get_or xs k 0 ∷ [] ≡ take (k + 1) xs
+take_next k [] h = absurd (omega arith)
+take_next zero (x ∷ xs) h = refl
+take_next (suc k) (x ∷ xs) h =
+    let e : suc k + 1 ≡ suc (k + 1) = omega arith in
+    rw e (ap (λ y. x ∷ y) (take_next k xs (omega arith)))
+
+some_if : (t : Bool) (c d : Class) → (if t then Some c else None) ≡ Some d → (t ≡ true) × (c ≡ d)
+some_if true c d h = (refl, cc)
+some_if false c d h = absurd (cc)
+
+turned_letter : (c : Class) (k b : ℕ) (d : Class) → turned c k b ≡ Some d → Letter c k b d
+turned_letter class.Alnum k b d h =
+    let r = some_if (k == 2 && b == 112) class.Alpha d h in
+    let q = both (k == 2) (b == 112) r.0 in
+    subst (Letter class.Alnum k b) r.1 (subst (λ x. Letter class.Alnum x b class.Alpha) (sym (same_byte k 2 q.0))
+    (subst (λ x. Letter class.Alnum 2 x class.Alpha) (sym (same_byte b 112 q.1)) (record { is_next = refl; fits = omega arith })))
+turned_letter class.Print k b d h =
+    let r = some_if (k == 1 && b == 117) class.Punct d h in
+    let q = both (k == 1) (b == 117) r.0 in
+    subst (Letter class.Print k b) r.1 (subst (λ x. Letter class.Print x b class.Punct) (sym (same_byte k 1 q.0))
+    (subst (λ x. Letter class.Print 1 x class.Punct) (sym (same_byte b 117 q.1)) (record { is_next = refl; fits = omega arith })))
+turned_letter class.Alpha k b d h = absurd (cc)
+turned_letter class.Blank k b d h = absurd (cc)
+turned_letter class.Cntrl k b d h = absurd (cc)
+turned_letter class.Digit k b d h = absurd (cc)
+turned_letter class.Graph k b d h = absurd (cc)
+turned_letter class.Lower k b d h = absurd (cc)
+turned_letter class.Punct k b d h = absurd (cc)
+turned_letter class.Space k b d h = absurd (cc)
+turned_letter class.Upper k b d h = absurd (cc)
+turned_letter class.Xdigit k b d h = absurd (cc)
+
+next_letter : (c : Class) (k b : ℕ) (d : Class) (t : Bool) → (nat_lt k (length (name_of c)) && get_or (name_of c) k 0 == b) ≡ t
+    → (if t then Some c else turned c k b) ≡ Some d → Letter c k b d
+next_letter c k b d true h e =
+    let q = both (nat_lt k (length (name_of c))) (get_or (name_of c) k 0 == b) h in
+    let l = below_len k (length (name_of c)) q.0 in
+    let y : c ≡ d = cc in
+    subst (Letter c k b) y (record {
+      is_next = ap (λ x. take k (name_of c) ++ x ∷ []) (sym (same_byte (get_or (name_of c) k 0) b q.1)) ∙ take_next k (name_of c) l;
+      fits = omega arith;
+    })
+next_letter c k b d false h e = turned_letter c k b d e
+
+named_sound : (z : List ℕ) (b : ℕ) (negated : Bool) (marks : List Bool) (p : Phase) (l : Listed z negated marks p) (k : ℕ) (r : Option Class) → 1 ≤ k → ClassWhy z
+    → ((d : Class) → r ≡ Some d → (tail p ++ b ∷ [] ≡ 91 ∷ 58 ∷ take k (name_of d)) × (k ≤ length (name_of d)))
+    → Outcome z b (named negated marks k b r)
+named_sound z b negated marks p l k (Some d) o y h =
+    let g = h d refl in kept z negated marks p (phase.ClassName d k) b l g.0 (o, g.1)
+named_sound z b negated marks p l k None o y h = fault_class z b (is_printable b) refl y
+
+class_sound : (z : List ℕ) (b : ℕ) (negated : Bool) (marks : List Bool) (c : Class) (k : ℕ) (l : Listed z negated marks (phase.ClassName c k)) (t : Bool)
+    → (b == 58 && k == length (name_of c)) ≡ t
+    → Outcome z b (if t then at_phase negated marks (phase.ClassEnd c) else named negated marks (k + 1) b (next_class c k b))
+class_sound z b negated marks c k l true h =
+    let q = both (b == 58) (k == length (name_of c)) h in
+    let n : take k (name_of c) ≡ name_of c = ap (λ x. take x (name_of c)) (same_byte k (length (name_of c)) q.1) ∙ take-length (name_of c) in
+    kept z negated marks (phase.ClassName c k) (phase.ClassEnd c) b l
+    (ap (λ x. 91 ∷ 58 ∷ (x ++ b ∷ [])) n ∙ ap (λ x. 91 ∷ 58 ∷ (name_of c ++ x ∷ [])) (same_byte b 58 q.0)) tt
+class_sound z b negated marks c k l false h =
+    named_sound z b negated marks (phase.ClassName c k) l (k + 1) (next_class c k b) (omega arith) (class_name_why z negated marks c k l)
+    (λ d e. let x = next_letter c k b d _ refl e in (ap (λ y. 91 ∷ 58 ∷ y) x.is_next, x.fits))
+
+class_end_sound : (z : List ℕ) (b : ℕ) (negated : Bool) (marks : List Bool) (c : Class) (l : Listed z negated marks (phase.ClassEnd c)) (t : Bool) → (b == 93) ≡ t
+    → Outcome z b (if t then at_phase negated (marked (members c) marks) phase.Next else listing.Broken (class_fault b))
+unfolding head
+class_end_sound z b negated marks c l true h =
+    emitted z negated marks (phase.ClassEnd c) phase.Next b (members c) l
+    (ap (λ x. 91 ∷ 58 ∷ x) (append_assoc (name_of c) (58 ∷ []) (b ∷ []) ∙ (ap (λ x. name_of c ++ 58 ∷ x ∷ []) (same_byte b 93 h) ∙ sym (append-nil (name_of c ++ 58 ∷ 93 ∷ [])))))
+    (λ r. refl) (λ f. or_true negated) refl
+  where
+    or_true : (v : Bool) → (v || true) ≡ true
+    or_true true = refl
+    or_true false = refl
+class_end_sound z b negated marks c l false h = fault_class z b (is_printable b) refl (class_end_why z negated marks c l)
+
+phase_sound : (z : List ℕ) (b : ℕ) (negated : Bool) (marks : List Bool) (p : Phase) → Listed z negated marks p → Outcome z b (phase_step negated marks p b)
+phase_sound z b negated marks phase.Start l = start_sound z b negated marks (b == 94) l refl
+phase_sound z b negated marks phase.First l =
+    begin_sound z b negated marks true (b == 93) (b == 91)
+    (ready_kept z b negated marks phase.First true l refl l.fits.0 (λ f. absurd (cc)) (λ f. ap (λ v. v || not (b == 94)) l.fits.1)) refl refl
+phase_sound z b negated marks phase.Next l =
+    begin_sound z b negated marks false (b == 93) (b == 91)
+    (ready_kept z b negated marks phase.Next false l refl l.fits (λ f e. closed_next z b negated marks l e) (λ f. absurd (cc))) refl refl
+phase_sound z b negated marks (phase.Element e) l =
+    element_sound z b negated marks (phase.Element e) e l (b == 45) refl l.fits.0 (λ x. absurd (l.fits.1 x)) refl
+phase_sound z b negated marks (phase.Dash e) l = dash_sound z b negated marks e l (b == 93) (is_printable b) (nat_lt b e) (b == 91) refl refl refl refl
+phase_sound z b negated marks phase.Inner l = inner_sound z b negated marks l (b == 46 || b == 61) (b == 58) refl refl
+phase_sound z b negated marks (phase.RangeInner e) l = range_inner_sound z b negated marks e l (b == 46 || b == 61) (b == 58) refl refl
+phase_sound z b negated marks phase.Last l = last_sound z b negated marks l (b == 93) (is_printable b) refl refl
+phase_sound z b negated marks phase.ClassStart l =
+    named_sound z b negated marks phase.ClassStart l 1 (first_class b) (omega arith) (class_start_why z negated marks l) (λ d e. (ap (λ y. 91 ∷ 58 ∷ y) (first_letter b d e), name_some d))
+phase_sound z b negated marks (phase.ClassName c k) l = class_sound z b negated marks c k l (b == 58 && k == length (name_of c)) refl
+phase_sound z b negated marks (phase.ClassEnd c) l = class_end_sound z b negated marks c l (b == 93) refl
+
+pub list_sound : (z : List ℕ) (b : ℕ) (k : Bracket) → Listed z k.negated k.marks k.phase → Outcome z b (list_step k b)
+list_sound z b k l = phase_sound z b k.negated k.marks k.phase l

@@ -1,0 +1,13 @@
+pub mod Marks
+pub mod CellLemmas
+pub mod Told
+pub mod Runs
+pub mod IntervalRuns
+pub mod BracketRuns
+pub mod Complete
+pub mod Sound
+pub mod IntervalSound
+pub mod BracketSound
+pub mod Meaning
+pub mod Reading
+pub mod Closing

@@ -1,0 +1,6 @@
+use Rattle.posix_ere.proofs.Told.{children_told}
+use Rattle.posix_ere.proofs.cell.Cells.children.Goals as goal
+
+pub returns : goal.returns
+returns g c =
+    children_told c.self.inside.items.items c.args.self.now c.args.at c.index.result.now c.self.view_is c.index.ensures c.requires c.self.invariant

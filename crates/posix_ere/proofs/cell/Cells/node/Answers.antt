@@ -1,0 +1,5 @@
+use Rattle.posix_ere.proofs.Told.{node_told}
+use Rattle.posix_ere.proofs.cell.Cells.node.Goals as goal
+
+pub returns : goal.returns
+returns g c = node_told c.self.inside.items.items c.args.self.now c.args.at c.index.result.now c.self.view_is c.index.ensures c.requires

@@ -1,0 +1,15 @@
+pub mod Tree
+pub mod Parts
+pub mod Nodes
+pub mod Ascii
+pub mod Interval
+pub mod Bracket
+pub mod Grammar
+pub mod IntervalMachine
+pub mod BracketMachine
+pub mod Cells
+pub mod Machine
+pub mod Code
+pub mod Answers
+pub mod Places
+pub mod Reasons

@@ -1,0 +1,22 @@
+//! Where the reading of an expression stands.
+use crate::bracket::Bracket;
+use crate::interval::Interval;
+
+/// The alternatives of an open group, or of the whole: its number, how many branches ended, how many pieces the last
+/// branch has, and whether the last of them may be repeated.
+#[derive(Clone, Copy, Debug, PartialEq, Eq, Drop)]
+pub(crate) struct Frame {
+    pub(crate) number: u32,
+    pub(crate) branches: u32,
+    pub(crate) pieces: u32,
+    pub(crate) repeatable: bool,
+}
+
+/// What a byte is a part of.
+#[derive(Clone, Copy, Drop)]
+pub(crate) enum Mode {
+    Plain,
+    Escape,
+    Interval(Interval),
+    Bracket(Bracket),
+}

@@ -1,0 +1,19 @@
+//! Extended regular expressions: reading a text as a tree.
+#![tactic(auto)]
+
+mod bracket;
+mod cell;
+mod class;
+mod ere;
+mod frame;
+mod interval;
+mod node;
+mod reader;
+mod sign;
+#[cfg(test)]
+mod tests;
+mod why;
+
+pub use ere::{Ere, has_one_tree};
+pub use node::Node;
+pub use why::{EreFault, Why};
