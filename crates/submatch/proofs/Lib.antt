@@ -1,0 +1,14 @@
+pub mod Order
+pub mod Ends
+pub mod Greedy
+pub mod Outcomes
+pub mod BestMatch
+pub mod PlacesLemmas
+pub mod Adding
+pub mod EndsOfRows
+pub mod EndsOfNodes
+pub mod Listed
+pub mod Longest
+pub mod Rebuilding
+pub mod NineSpans
+pub mod Finding

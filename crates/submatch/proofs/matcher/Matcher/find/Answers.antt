@@ -1,0 +1,12 @@
+use Rattle.std.proofs.Common.{ℕ, ◌≤◌, ◌↔◌, length, IsNone, IfOk, subst}
+use Rattle.submatch.specs.Best.{HasNoMatch, TellsBest}
+use Rattle.submatch.proofs.Adding.{map_ok}
+use Rattle.submatch.proofs.Finding.{none_told}
+use Rattle.submatch.proofs.matcher.Matcher.find.Goals as goal
+
+pub returns-clause-none : goal.returns-clause-none
+returns-clause-none g c =
+    map_ok (TellsBest c.args.fold c.args.text.now c.args.self.now)
+    (λ found. IsNone found ↔ ((i : ℕ) → i ≤ length c.args.text.now → HasNoMatch c.args.fold c.args.text.now c.args.self.now i))
+    c.best.result (none_told c.args.fold c.args.text.now c.args.self.now)
+    (subst (λ t. IfOk c.best.result (TellsBest c.args.fold c.args.text.now t)) c.self.view_is c.best.ensures)

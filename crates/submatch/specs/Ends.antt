@@ -1,0 +1,51 @@
+-- Where parses from a place can end.
+use Rattle.std.specs.Prelude.{◌≡◌, ℕ, zero, suc, ◌≤◌, Bool, false, List, [], Option, Some, None}
+use Rattle.posix_ere.specs.Tree.{Tree, atom, Trees, none, more}
+use Rattle.submatch.specs.declared.spans.Span.{Span}
+use Rattle.submatch.specs.Bytes.{takes}
+use Rattle.submatch.specs.Parses.{Parses, IsOneParse, AreParses, IsParse, IsBranch}
+use Rattle.submatch.specs.Greater.{IsGreatestParse}
+use Rattle.submatch.specs.Groups.{groups_of, groups_of_last}
+
+-- some parse covers the text from i to j
+abbrev pub Reaches : IsOneParse → ℕ → ℕ → Type 0
+Reaches One i j = (c : ℕ) × (a : Parses) × One i j c a
+
+-- some row of parses covers the text from i to j
+abbrev pub RowReaches : AreParses → ℕ → ℕ → Type 0
+RowReaches More i j = (ps : Parses) × More i j ps
+
+-- some branch has a parse that covers the text from i to j
+abbrev pub BranchReaches : Bool → List ℕ → Trees → ℕ → ℕ → Type 0
+BranchReaches fold w ts i j = (c : ℕ) × (ps : Parses) × IsBranch fold w ts c i j ps
+
+-- the parts from number k on
+abbrev pub parts_from : ℕ → Trees → Trees
+parts_from zero ts = ts
+parts_from (suc k) none = none
+parts_from (suc k) (more t ts) = parts_from k ts
+
+-- whether the part is one for a byte and takes this one
+abbrev pub takes_byte : Bool → Tree → ℕ → Bool
+takes_byte fold (atom x) b = takes fold x b
+takes_byte fold _ b = false
+
+-- the first parse ends here, and others cover the rest up to the end
+abbrev pub IsHeadEnd : IsOneParse → AreParses → ℕ → ℕ → ℕ → Type 0
+IsHeadEnd One More from to e = Reaches One from e × RowReaches More e to
+
+-- the greatest number for which P holds
+pub record IsLongest (P : ℕ → Type 0) (e : ℕ) : Type 0 where
+  pub holds : P e
+  pub most : (f : ℕ) → P f → f ≤ e
+
+-- the greatest number for which P holds, or that there is none
+abbrev pub TellsLongest : (ℕ → Type 0) → Option ℕ → Type 0
+TellsLongest P None = (f : ℕ) → P f → ⊥
+TellsLongest P (Some e) = IsLongest P e
+
+-- the groups that iterations from a place leave are those of the greatest parse of this stretch, or none
+abbrev pub LeavesGroupsOf : Bool → List ℕ → Tree → ℕ → Parses → Option Span → Type 0
+LeavesGroupsOf fold w t from ps None = groups_of_last (groups_of t) from ps ≡ []
+LeavesGroupsOf fold w t from ps (Some s) = (c : ℕ) × (a : Parses) ×
+    IsGreatestParse (IsParse fold w t s.from s.to) c a × (groups_of_last (groups_of t) from ps ≡ groups_of t s.from s.to c a)
