@@ -2,3 +2,5 @@ mod CutLemmas
 mod OneSplit
 mod PieceLemmas
 mod SplitLemmas
+mod Expanding
+mod OneAnswer

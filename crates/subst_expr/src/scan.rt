@@ -72,8 +72,8 @@ pub(crate) fn first_bad_escape(delim: u8, start: usize, repl: &[u8]) -> Option<u
     None
 }
 
-// Whether the byte escapes the next one.
-fn begins_pair(escaped: bool, b: u8) -> bool
+/// Whether the byte escapes the next one.
+pub(crate) fn begins_pair(escaped: bool, b: u8) -> bool
     ensures { result ≡ (not escaped && b == backslash) }
 {
     !escaped && b == b'\\'

@@ -1,0 +1,5 @@
+use Rattle.subst_expr.proofs.rule_tests.answer.Given as goal
+
+-- the steps are counted in the new ledger
+abbrev pub ghosts-counted : goal.ghosts-counted
+ghosts-counted a = record { name = a.blank.name; parts = a.blank.parts }

@@ -1,0 +1,24 @@
+-- That rules have one answer, as statements (this project's own).
+use Rattle.std.specs.Prelude.{◌≡◌, ℕ, List}
+use Rattle.posix_ere.specs.Tree.{Tree}
+use Rattle.subst_expr.specs.Regexp.{HasTree, IsWellFormed, IsRegexpFault}
+use Rattle.subst_expr.specs.Output.{IsOutput, IsUnmatched}
+use Rattle.subst_expr.specs.declared.subst.Subst.{Subst}
+use Rattle.subst_expr.specs.declared.regexp.RegexpFault.{RegexpFault}
+use Rattle.subst_expr.specs.declared.regexp.RegexpFault.TheVariants.{Memory}
+
+-- a text has one split and one tree
+abbrev pub OneReading : Type 0
+OneReading = (text : List ℕ) (s r : Subst) (t u : Tree) → HasTree text s t → HasTree text r u → (s ≡ r) × (t ≡ u)
+
+-- a well-formed text has no fault but want of memory
+abbrev pub WellFormedHasNoFault : Type 0
+WellFormedHasNoFault = (text : List ℕ) (fault : RegexpFault) → IsWellFormed text → IsRegexpFault text fault → fault ≡ Memory
+
+-- the output is a function of the text and the original string
+abbrev pub OneOutput : Type 0
+OneOutput = (text aus bytes others : List ℕ) → IsOutput text aus bytes → IsOutput text aus others → bytes ≡ others
+
+-- where there is no match there is no output
+abbrev pub UnmatchedHasNoOutput : Type 0
+UnmatchedHasNoOutput = (text aus bytes : List ℕ) → IsUnmatched text aus → IsOutput text aus bytes → ⊥

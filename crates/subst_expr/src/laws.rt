@@ -1,0 +1,22 @@
+//! That rules have one answer. Each function does nothing: its contract is a law, proved like any other contract.
+ghost use Rattle.subst_expr.specs.Laws.{OneReading, WellFormedHasNoFault, OneOutput, UnmatchedHasNoOutput};
+
+use posix_ere::has_one_tree;
+use submatch::laws::best_match;
+
+/// A text has one split and one tree, and a well-formed one has no fault but want of memory.
+pub fn one_reading()
+    ensures reading { OneReading }
+    ensures no_fault { WellFormedHasNoFault }
+{
+    has_one_tree();
+}
+
+/// The output is a function of the text and the original string, and where there is no match there is none.
+pub fn one_output()
+    ensures output { OneOutput }
+    ensures unmatched { UnmatchedHasNoOutput }
+{
+    has_one_tree();
+    best_match();
+}
