@@ -4,3 +4,4 @@ mod PieceLemmas
 mod SplitLemmas
 mod Expanding
 mod OneAnswer
+mod EachAnswer

@@ -1,5 +1,5 @@
 -- The output of a substitution (RFC 3402, section 3.2; that text outside the match is dropped is this project's own).
-use Rattle.std.specs.Prelude.{◌≡◌, ◌≢◌, ◌⊎◌, ℕ, ◌<◌, ◌≤◌, List, [], ◌++◌, length, Option, Some, None}
+use Rattle.std.specs.Prelude.{◌≡◌, ◌≢◌, ◌⊎◌, ℕ, ◌<◌, ◌≤◌, List, [], ◌++◌, length, Option, Some, None, Result, Ok, Err}
 use Rattle.posix_ere.specs.Tree.{Tree}
 use Rattle.submatch.specs.declared.spans.Span.{Span}
 use Rattle.submatch.specs.Best.{HasNoMatch, AreBestGroups}
@@ -51,3 +51,14 @@ apply_fault (RegexpFault.Split fault) = IllFormed (RegexpFault.Split fault)
 apply_fault (RegexpFault.Ere fault) = IllFormed (RegexpFault.Ere fault)
 apply_fault (RegexpFault.NoGroup at) = IllFormed (RegexpFault.NoGroup at)
 apply_fault RegexpFault.Memory = Memory
+
+-- this answer, or want of memory in its place
+abbrev pub IsAnswer : Result Applied ApplyFault → Result Applied ApplyFault → Type 0
+IsAnswer result answer = (result ≡ answer) ⊎ (result ≡ Err Memory)
+
+-- the text is refused, or want of memory is told in its place
+abbrev pub IsRefusal : Result Applied ApplyFault → Type 0
+IsRefusal (Ok applied) = ⊥
+IsRefusal (Err (IllFormed fault)) = Unit {0}
+IsRefusal (Err TooLong) = ⊥
+IsRefusal (Err Memory) = Unit {0}

@@ -1,11 +1,16 @@
 //! A rule applied to an original string.
-ghost use Rattle.std.specs.Prelude.{◌≡◌, ◌≤◌, IfOk, OnErr, length};
+ghost use Rattle.std.specs.Prelude.{◌≡◌, ◌≢◌, ◌⊎◌, ◌<◌, ◌≤◌, ℕ, List, [], Ok, Err, IfOk, OnErr, length};
 ghost use Rattle.std.specs.Result.{IfErr};
 ghost use Rattle.posix_ere.specs.Nodes.{whole};
-ghost use Rattle.subst_expr.specs.Output.{IsApplied, IsApplyFault, TellsExpansion, apply_fault};
+ghost use Rattle.subst_expr.specs.Output.{IsOutput, IsUnmatched, IsApplied, IsApplyFault, IsAnswer, IsRefusal, TellsExpansion, apply_fault};
+ghost use Rattle.subst_expr.specs.Regexp.{IsRegexpFault};
+ghost use Rattle.subst_expr.specs.declared.regexp.RegexpFault.{RegexpFault};
+ghost use Rattle.subst_expr.specs.declared.regexp.RegexpFault.TheVariants as RegexpFault;
+ghost use Rattle.subst_expr.specs.declared.rule.Applied.TheVariants as Applied;
 ghost use Rattle.subst_expr.specs.declared.rule.ApplyFault.TheVariants as ApplyFault;
 
 use crate::expand::expansion;
+use crate::laws::{one_output, one_reading};
 use crate::regexp::{RegexpFault, read};
 use crate::subst::Subst;
 use enum_base::{Bytes, MemoryFault, Steps, Text255};
@@ -66,6 +71,34 @@ pub fn apply<A: Allocator + Copy, L: Ledger>(
     steps: &mut Steps<L>,
 ) -> Result<Applied, ApplyFault>
     requires short { length aus.now ≤ 255 }
+    ensures ok { IfOk result (λ applied. IsApplied text.now aus.now out.old out.new applied) }
+    ensures err { IfErr result (λ fault. IsApplyFault text.now aus.now fault) }
+    ensures kept { OnErr result (out.new ≡ out.old) }
+
+    // Each answer comes where its condition holds, or want of memory in its place.
+    ensures output { (bytes : List ℕ) → IsOutput text.now aus.now bytes → 0 < length bytes →
+        length bytes ≤ 1024 → IsAnswer result (Ok Applied.Output) }
+    ensures no_match { IsUnmatched text.now aus.now ⊎ IsOutput text.now aus.now [] →
+        IsAnswer result (Ok Applied.NoMatch) }
+    ensures too_long { (bytes : List ℕ) → IsOutput text.now aus.now bytes → 1024 < length bytes →
+        IsAnswer result (Err ApplyFault.TooLong) }
+    ensures ill_formed { (fault : RegexpFault) → fault ≢ RegexpFault.Memory → IsRegexpFault text.now fault →
+        IsRefusal result }
+{
+    one_reading();
+    one_output();
+    append_output(alloc, text, aus, out, steps)
+}
+
+// The same, without the conditions the other way round.
+fn append_output<A: Allocator + Copy, L: Ledger>(
+    alloc: A,
+    text: &Text255,
+    aus: &[u8],
+    out: &mut Bytes,
+    steps: &mut Steps<L>,
+) -> Result<Applied, ApplyFault>
+    requires { length aus.now ≤ 255 }
     ensures ok { IfOk result (λ applied. IsApplied text.now aus.now out.old out.new applied) }
     ensures err { IfErr result (λ fault. IsApplyFault text.now aus.now fault) }
     ensures kept { OnErr result (out.new ≡ out.old) }
