@@ -142,30 +142,30 @@ shape (range e f ∷ is) = (e, (45 ∷ f ∷ body is) ++ 93 ∷ [], refl)
 shape (members c ∷ is) = (91, (58 ∷ ((name_of c ++ 58 ∷ 93 ∷ []) ++ body is)) ++ 93 ∷ [], refl)
 
 -- a `-` that is last ends the items
-only_last : (is : List Item) → are_items false is (93 ∷ []) ≡ true → begins (λ b. b == 93) (body is ++ 93 ∷ []) ≡ true → is ≡ []
-only_last [] v h = refl
-only_last (single e ∷ is) v h =
-    let t = body is ++ 93 ∷ [] in
-    let a = (both (is_item false (single e) t) (are_items false is (93 ∷ [])) v).0 in
+pub only_last : (is : List Item) (rest : List ℕ) → are_items false is rest ≡ true → begins (λ b. b == 93) (body is ++ rest) ≡ true → is ≡ []
+only_last [] rest v h = refl
+only_last (single e ∷ is) rest v h =
+    let t = body is ++ rest in
+    let a = (both (is_item false (single e) t) (are_items false is rest) v).0 in
     let b = (both (is_element false e t && not (goes_on_as_range t)) (false || not (e == 45) || begins (λ b. b == 93) t) a).0 in
     let x = element false e t (both (is_element false e t) (not (goes_on_as_range t)) b).0 in
     absurd (x.closes refl (same_byte e 93 h))
-only_last (range e f ∷ is) v h =
-    let t = body is ++ 93 ∷ [] in
-    let a = (both (is_item false (range e f) t) (are_items false is (93 ∷ [])) v).0 in
+only_last (range e f ∷ is) rest v h =
+    let t = body is ++ rest in
+    let a = (both (is_item false (range e f) t) (are_items false is rest) v).0 in
     let b = (both (is_element false e (45 ∷ []) && (false || not (e == 45)) && is_element false f t) (nat_le e f) a).0 in
     let c = (both (is_element false e (45 ∷ []) && (false || not (e == 45))) (is_element false f t) b).0 in
     let x = element false e (45 ∷ []) (both (is_element false e (45 ∷ [])) (false || not (e == 45)) c).0 in
     absurd (x.closes refl (same_byte e 93 h))
-only_last (members c ∷ is) v h = absurd (cc)
+only_last (members c ∷ is) rest v h = absurd (cc)
 
-hyphen_last : (e : ℕ) (t : List ℕ) → is_item false (single e) t ≡ true → e ≡ 45 → begins (λ b. b == 93) t ≡ true
+pub hyphen_last : (e : ℕ) (t : List ℕ) → is_item false (single e) t ≡ true → e ≡ 45 → begins (λ b. b == 93) t ≡ true
 hyphen_last e t v a =
     let b = (both (is_element false e t && not (goes_on_as_range t)) (false || not (e == 45) || begins (λ b. b == 93) t) v).1 in
     let c : (e == 45) ≡ true = rw a refl in
     rw c at b
 
-range_start : (e f : ℕ) (t : List ℕ) → is_item false (range e f) t ≡ true → e ≢ 45
+pub range_start : (e f : ℕ) (t : List ℕ) → is_item false (range e f) t ≡ true → e ≢ 45
 range_start e f t v =
     let b = (both (is_element false e (45 ∷ []) && (false || not (e == 45)) && is_element false f t) (nat_le e f) v).0 in
     let c = (both (is_element false e (45 ∷ []) && (false || not (e == 45))) (is_element false f t) b).0 in
@@ -189,7 +189,7 @@ split_hyphen e is (inr b) f = inr b
 single_hyphen : (e : ℕ) (is : List Item) (t : List ℕ) → t ≡ body is ++ 93 ∷ [] → is_item false (single e) t ≡ true → are_items false is (93 ∷ []) ≡ true
     → IsLast (single e) is ⊎ (e ≢ 45)
 single_hyphen e is t h v w =
-    split_hyphen e is (same_or_not e 45) (λ a. only_last is w (subst (λ ts. begins (λ b. b == 93) ts ≡ true) h (hyphen_last e t v a)))
+    split_hyphen e is (same_or_not e 45) (λ a. only_last is (93 ∷ []) w (subst (λ ts. begins (λ b. b == 93) ts ≡ true) h (hyphen_last e t v a)))
 
 hyphen_or_not : (i : Item) (is : List Item) (t : List ℕ) → t ≡ body is ++ 93 ∷ [] → is_item false i t ≡ true → are_items false is (93 ∷ []) ≡ true
     → IsLast i is ⊎ (head i ≢ 45)
@@ -198,7 +198,7 @@ hyphen_or_not (single e) = single_hyphen e
 hyphen_or_not (range e f) = λ is t h v w. inr (range_start e f t v)
 hyphen_or_not (members c) = λ is t h v w. inr class_head
 
-step_plain_at : (s : State) (b : ℕ) → s.mode ≡ mode.Plain → step s b ≡ plain_step s b (sign_of b)
+pub step_plain_at : (s : State) (b : ℕ) → s.mode ≡ mode.Plain → step s b ≡ plain_step s b (sign_of b)
 unfolding step
 step_plain_at s b e = ap (λ m. mode_step m s b) e
 
@@ -236,9 +236,9 @@ module _ (s : State) (negated : Bool) where
   same p q m k b bs e = ap (λ r. after r (λ t. run t bs)) (step_inside p m b ∙ (ap (bracket_step s) e ∙ sym (step_inside q k b)))
 
   -- a phase at which an item may begin, but for a `-`, and a `-` may be last
-  record Follows (p : Phase) (m k : List Bool) : Type 0 where
-    other : (b : ℕ) → b ≢ 45 → phase_step negated m p b ≡ begin_item false negated k b
-    hyphen : run (inside p m) (45 ∷ 93 ∷ []) ≡ done (marked (single 45) k)
+  pub record Follows (p : Phase) (m k : List Bool) : Type 0 where
+    pub other : (b : ℕ) → b ≢ 45 → phase_step negated m p b ≡ begin_item false negated k b
+    pub hyphen : run (inside p m) (45 ∷ 93 ∷ []) ≡ done (marked (single 45) k)
 
   follows_next : (m : List Bool) → Follows phase.Next m m
   follows_next m = record {
@@ -265,7 +265,7 @@ module _ (s : State) (negated : Bool) where
       let a = either (t == 46 || t == 61) (t == 58) h in
       same (phase.RangeInner e) phase.Next m (marked (range e 91) m) t ts (rw (a.0, a.1) refl)
 
-  begin_element : (first : Bool) (m : List Bool) (e : ℕ) → is_printable e ≡ true → (first ≡ false → e ≢ 93) → e ≢ 91 → (first ≡ false → e ≢ 45)
+  pub begin_element : (first : Bool) (m : List Bool) (e : ℕ) → is_printable e ≡ true → (first ≡ false → e ≢ 93) → e ≢ 91 → (first ≡ false → e ≢ 45)
       → begin_item first negated m e ≡ listing.More (record { negated = negated; marks = m; phase = phase.Element e })
   begin_element true m e p a b c = chosen (e == 93) _ _ (rw (other_byte e 91 b, and_false (e == 45), p) refl)
   begin_element false m e p a b c =
@@ -327,28 +327,43 @@ module _ (s : State) (negated : Bool) where
   named class.Xdigit m ts = refl
 
   -- an item from a phase at which it may begin
+  pub item_goes : (first : Bool) (p : Phase) (m k : List Bool) (i : Item) (t : ℕ) (ts : List ℕ)
+      → phase_step negated m p (head i) ≡ begin_item first negated k (head i)
+      → is_item first i (t ∷ ts) ≡ true → (first ≡ false → head i ≢ 45)
+      → (q : Phase) × (x : List Bool) × Follows q x (marked i k) × (run (inside p m) (spelled i ++ t ∷ ts) ≡ run (inside q x) (t ∷ ts))
+  unfolding head
+  item_goes first p m k (single e) t ts h v c =
+      let a = both (is_element first e (t ∷ ts) && not (goes_on_as_range (t ∷ ts))) (first || not (e == 45) || begins (λ b. b == 93) (t ∷ ts)) v in
+      let x = element first e (t ∷ ts) (both (is_element first e (t ∷ ts)) (not (goes_on_as_range (t ∷ ts))) a.0).0 in
+      (phase.Element e, k, follows_element e k, opening first p m k e t ts h x c)
+  item_goes first p m k (range e f) t ts h v c =
+      let a = both (is_element first e (45 ∷ []) && (first || not (e == 45)) && is_element false f (t ∷ ts)) (nat_le e f) v in
+      let b = both (is_element first e (45 ∷ []) && (first || not (e == 45))) (is_element false f (t ∷ ts)) a.0 in
+      let x = element first e (45 ∷ []) (both (is_element first e (45 ∷ [])) (first || not (e == 45)) b.0).0 in
+      let y = element false f (t ∷ ts) b.1 in
+      let z : Element first e (45 ∷ f ∷ t ∷ ts) = record { printable = x.printable; closes = x.closes; marks = x.marks } in (
+        phase.Next,
+        marked (range e f) k,
+        follows_next (marked (range e f) k),
+        opening first p m k e 45 (f ∷ t ∷ ts) h z c ∙ (goes (phase.Element e) (phase.Dash e) k k 45 (f ∷ t ∷ ts) refl ∙ ranged e f k t ts y (at_most e f a.1)),
+      )
+  item_goes first p m k (members c) t ts h v d = (
+    phase.Next,
+    marked (members c) k,
+    follows_next (marked (members c) k),
+    goes p phase.Inner m k 91 (58 ∷ ((name_of c ++ 58 ∷ 93 ∷ []) ++ t ∷ ts)) (h ∙ inner_begins first k)
+        ∙ (ap (λ w. run (inside phase.Inner k) (58 ∷ w)) (append_assoc (name_of c) (58 ∷ 93 ∷ []) (t ∷ ts)) ∙ named c k (t ∷ ts)),
+  )
+
+  -- an item, and what the machine answers after it
   item_runs : (first : Bool) (p : Phase) (m k : List Bool) (i : Item) (t : ℕ) (ts : List ℕ) (r : Result State Why)
       → phase_step negated m p (head i) ≡ begin_item first negated k (head i)
       → is_item first i (t ∷ ts) ≡ true → (first ≡ false → head i ≢ 45)
       → ((q : Phase) (x : List Bool) → Follows q x (marked i k) → run (inside q x) (t ∷ ts) ≡ r)
       → run (inside p m) (spelled i ++ t ∷ ts) ≡ r
-  unfolding head
-  item_runs first p m k (single e) t ts r h v c further =
-      let a = both (is_element first e (t ∷ ts) && not (goes_on_as_range (t ∷ ts))) (first || not (e == 45) || begins (λ b. b == 93) (t ∷ ts)) v in
-      let x = element first e (t ∷ ts) (both (is_element first e (t ∷ ts)) (not (goes_on_as_range (t ∷ ts))) a.0).0 in
-      opening first p m k e t ts h x c ∙ further (phase.Element e) k (follows_element e k)
-  item_runs first p m k (range e f) t ts r h v c further =
-      let a = both (is_element first e (45 ∷ []) && (first || not (e == 45)) && is_element false f (t ∷ ts)) (nat_le e f) v in
-      let b = both (is_element first e (45 ∷ []) && (first || not (e == 45))) (is_element false f (t ∷ ts)) a.0 in
-      let x = element first e (45 ∷ []) (both (is_element first e (45 ∷ [])) (first || not (e == 45)) b.0).0 in
-      let y = element false f (t ∷ ts) b.1 in
-      let z : Element first e (45 ∷ f ∷ t ∷ ts) = record { printable = x.printable; closes = x.closes; marks = x.marks } in
-      opening first p m k e 45 (f ∷ t ∷ ts) h z c ∙ (goes (phase.Element e) (phase.Dash e) k k 45 (f ∷ t ∷ ts) refl
-      ∙ (ranged e f k t ts y (at_most e f a.1) ∙ further phase.Next (marked (range e f) k) (follows_next (marked (range e f) k))))
-  item_runs first p m k (members c) t ts r h v d further =
-      goes p phase.Inner m k 91 (58 ∷ ((name_of c ++ 58 ∷ 93 ∷ []) ++ t ∷ ts)) (h ∙ inner_begins first k)
-      ∙ (ap (λ w. run (inside phase.Inner k) (58 ∷ w)) (append_assoc (name_of c) (58 ∷ 93 ∷ []) (t ∷ ts))
-      ∙ (named c k (t ∷ ts) ∙ further phase.Next (marked (members c) k) (follows_next (marked (members c) k))))
+  item_runs first p m k i t ts r h v c further =
+      let g = item_goes first p m k i t ts h v c in
+      g.3 ∙ further g.0 g.1 g.2
 
   -- items up to the closing
   runs_items : (is : List Item) (p : Phase) (m k : List Bool) → Follows p m k → are_items false is (93 ∷ []) ≡ true
@@ -390,13 +405,13 @@ module _ (s : State) (negated : Bool) where
       ap (run (inside p m)) (append_assoc (spelled i) (body is) (93 ∷ []))
       ∙ subst Q (sym e.2) q a.0 (λ q x g. runs_items is q x (marked i m) g a.1)
 
-not_circumflex : (i : Item) (js : List Item) → not (begins (λ b. b == 94) (body (i ∷ js))) ≡ true → (head i == 94) ≡ false
+pub not_circumflex : (i : Item) (js : List Item) → not (begins (λ b. b == 94) (body (i ∷ js))) ≡ true → (head i == 94) ≡ false
 unfolding head
 not_circumflex (single e) js h = is_not (e == 94) h
 not_circumflex (range e f) js h = is_not (e == 94) h
 not_circumflex (members c) js h = refl
 
-first_step : (m : List Bool) (b : ℕ) → (b == 94) ≡ false → phase_step false m phase.Start b ≡ begin_item true false m b
+pub first_step : (m : List Bool) (b : ℕ) → (b == 94) ≡ false → phase_step false m phase.Start b ≡ begin_item true false m b
 first_step m b h = rw h refl
 
 pub runs_bracket : (s : State) (w : List ℕ) (negated : Bool) (is : List Item) → s.mode ≡ mode.Plain → IsBracket w negated is

@@ -11,3 +11,5 @@ pub mod BracketSound
 pub mod Meaning
 pub mod Reading
 pub mod Closing
+pub mod Contexts
+pub mod OneReason

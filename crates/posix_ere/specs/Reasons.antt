@@ -1,5 +1,5 @@
 -- Why a text breaks where it breaks (this project's own): ten rows, each on the text before the place and what stands there.
--- They are written so that no two fit one place; a byte that is not printable has the row of its own.
+-- No two fit one place (`has_one_reason`); a byte that is not printable has the row of its own.
 use Rattle.std.specs.Prelude.{ℕ, zero, suc, ◌≡◌, ◌≢◌, ◌+◌, ◌<◌, ◌⊎◌, Bool, true, false, ◌||◌, ◌==◌, List, [], ◌∷◌, ◌++◌, Option, Some, None}
 use Rattle.std.specs.List.{list_all}
 use Rattle.posix_ere.specs.Tree.{Tree}

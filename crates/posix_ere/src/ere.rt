@@ -6,7 +6,7 @@ ghost use Rattle.posix_ere.specs.Parts.{count_of, part, parts_of, groups as grou
 ghost use Rattle.posix_ere.specs.Nodes.{node_of, listed_of, IsSet, tree_at, whole};
 ghost use Rattle.posix_ere.specs.Grammar.{Reads};
 ghost use Rattle.posix_ere.specs.Cells.{trees_of, IsExpressionOf};
-ghost use Rattle.posix_ere.specs.Answers.{HasOneTree, IsFaultOf, IsFaultAt};
+ghost use Rattle.posix_ere.specs.Answers.{HasOneTree, HasOneReason, HasOneFault, IsFaultOf, IsFaultAt};
 
 use crate::cell::Cells;
 use crate::node::Node;
@@ -41,6 +41,16 @@ impl<A: Allocator> Model for Ere<A> {
 /// A text has at most one tree.
 pub fn has_one_tree()
     ensures { HasOneTree }
+{}
+
+/// A text breaks for one reason: no two rows fit one place.
+pub fn has_one_reason()
+    ensures { HasOneReason }
+{}
+
+/// A text has at most one fault, with one place and one reason, or with one weight; want of memory is no fault of a text.
+pub fn has_one_fault()
+    ensures { HasOneFault }
 {}
 
 impl<A: Allocator + Copy> Ere<A> {
