@@ -14,6 +14,6 @@ mod sign;
 mod tests;
 mod why;
 
-pub use ere::{Ere, has_one_tree};
+pub use ere::{Ere, has_one_fault, has_one_reason, has_one_tree};
 pub use node::Node;
 pub use why::{EreFault, Why};
