@@ -1,11 +1,12 @@
 //! Domain names (RFC 1035): the wire form in a row of fixed size, comparison without regard to case,
-//! and names as text.
+//! names as text, and lists of names.
 #![tactic(auto)]
 
 mod fault;
 mod label;
 mod laws;
 mod name;
+mod names;
 mod piece;
 #[cfg(test)]
 mod tests;
@@ -15,3 +16,4 @@ mod written;
 pub use fault::NameFault;
 pub use laws::{plain_text_is_written, written_is_read_again};
 pub use name::Name;
+pub use names::Names;

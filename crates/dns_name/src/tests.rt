@@ -1,6 +1,6 @@
 //! Texts of names with their wire forms and faults by RFC 1035, names with their texts, and each call
 //! once with ample memory.
-use crate::{Name, NameFault, plain_text_is_written, written_is_read_again};
+use crate::{Name, NameFault, Names, plain_text_is_written, written_is_read_again};
 use enum_base::Bytes;
 use std::alloc::{AllocError, Global};
 use std::process::Abort;
@@ -214,5 +214,16 @@ fn names_compared(rt: HostRuntime) -> Result<(), Fail> {
     }
     let name = Name::from_text(b"A-Z.[z\\200.", None).expect(&rt, "a name");
     assert_eq!(rt; name.fold().wire(), b"\x03a-z\x03[z\xc8\x00".as_slice());
+    Ok(())
+}
+
+#[test]
+fn names_listed(rt: HostRuntime) -> Result<(), Fail> {
+    let mut names = Names::new(rt.alloc());
+    let name = Name::from_text(b"a.b.", None).expect(&rt, "a name");
+    names.push(name).expect(&rt, "room");
+    names.push(Name::root()).expect(&rt, "room");
+    assert_eq!(rt; names.as_slice().len(), 2);
+    assert_eq!(rt; names.as_slice()[0].wire(), b"\x01a\x01b\x00".as_slice());
     Ok(())
 }
