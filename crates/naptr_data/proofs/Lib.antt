@@ -1,1 +1,6 @@
+pub mod CutLemmas
+pub mod BelowLemmas
+pub mod FoldLemmas
+pub mod RisingLemmas
+pub mod OfferLemmas
 pub mod RuleLemmas

@@ -1,3 +1,5 @@
 pub mod Laws
 pub mod Rank
 pub mod Rdata
+pub mod Sources
+pub mod Zones

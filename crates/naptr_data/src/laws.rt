@@ -1,5 +1,5 @@
 //! Laws of rules.
-ghost use Rattle.naptr_data.specs.Laws.{RdataTellsRules, RankTellsRules, RankIsTotal};
+ghost use Rattle.naptr_data.specs.Laws.{RdataTellsRules, RankTellsRules, RankIsTotal, ZonesMakeOneOffer, SameNamesHaveSameOffers, FoldedNamesHaveSameOffers};
 
 /// No two rules have the same RDATA.
 pub fn rdata_tells_rules()
@@ -10,4 +10,15 @@ pub fn rdata_tells_rules()
 pub fn rank_is_total()
     ensures total { RankIsTotal }
     ensures apart { RankTellsRules }
+{}
+
+/// Zones offer one thing for a name.
+pub fn one_offer()
+    ensures { ZonesMakeOneOffer }
+{}
+
+/// The case of a name's letters decides nothing.
+pub fn offer_folds()
+    ensures same { SameNamesHaveSameOffers }
+    ensures folded { FoldedNamesHaveSameOffers }
 {}

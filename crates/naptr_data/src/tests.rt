@@ -1,5 +1,5 @@
 //! RDATA of a rule from outside, ranks of rules, and each call once with ample memory.
-use crate::{Naptr, rank_is_total, rdata_tells_rules};
+use crate::{Naptr, Rules, offer_folds, one_offer, rank_is_total, rdata_tells_rules};
 use dns_name::Name;
 use enum_base::{Bytes, Text255};
 use std::cmp::Ordering;
@@ -50,6 +50,27 @@ fn rdata_written(rt: HostRuntime) -> Result<(), Fail> {
     );
     rdata_tells_rules();
     rank_is_total();
+    one_offer();
+    offer_folds();
+    Ok(())
+}
+
+#[test]
+fn rules_listed(rt: HostRuntime) -> Result<(), Fail> {
+    let rule = Naptr {
+        order: 100,
+        preference: 10,
+        flags: text(&rt, b"u"),
+        services: text(&rt, b"E2U+sip"),
+        regexp: text(&rt, b"!a!b!"),
+        replacement: Name::root(),
+    };
+    let wanted: [Naptr; 2] = [rule, Naptr { order: 7, ..rule }];
+    let mut rules = Rules::new(rt.alloc());
+    for one in &wanted {
+        rules.push(*one).expect(&rt, "memory");
+    }
+    assert_eq!(rt; rules.as_slice(), wanted.as_slice());
     Ok(())
 }
 
