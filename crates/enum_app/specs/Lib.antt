@@ -1,0 +1,5 @@
+pub mod App
+pub mod AppLaws
+pub mod Digits
+pub mod Laws
+pub mod Number
