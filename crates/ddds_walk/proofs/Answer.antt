@@ -1,13 +1,15 @@
 -- What a walk's state says at its end: the least loop, or the report; and which domains are needed.
 use Rattle.std.proofs.Common.{◌≡◌, ℕ, ◌≤◌, ◌⊎◌, List, [], ◌∷◌, ◌++◌, refl, sym, ◌∙◌, ap, subst, inl, inr, append_assoc, append-nil}
 use Rattle.std.specs.Prelude.{Contains}
-use Rattle.ddds_walk.specs.Graph.{Graph, IsGraph, EndName, Found, Leads, Passes, EndsAs}
+use Rattle.ddds_walk.specs.Graph.{Graph, Leads, Passes}
 use Rattle.ddds_walk.specs.Order.{Less}
-use Rattle.ddds_walk.specs.Report.{AreDistinct, names_of, IsLoop, IsLeastLoop, HasNoLoop, IsReport, IsNeeded}
+use Rattle.ddds_walk.specs.Report.{IsLoop, IsLeastLoop, HasNoLoop, IsNeeded}
+use Rattle.ddds_walk.specs.Ways.{Mark, Found, EndsAs, marks_of, Walked}
+use Rattle.naptr_data.specs.Sources.{AreDistinct}
 use Rattle.ddds_walk.proofs.Order.{less_trans, less_longer, less_cases, rank_cases}
-use Rattle.ddds_walk.proofs.Lists.{has_none, has_cons, has_map}
+use Rattle.ddds_walk.proofs.Elements.{has_none, has_cons, has_map}
 use Rattle.ddds_walk.proofs.Graphs.{leads_join, leads_by, leads_one, leads_rest, passes_one, passes_push, passes_has, passes_path, passes_cut}
-use Rattle.ddds_walk.proofs.Walked.{Walked}
+use Rattle.ddds_walk.specs.Ways.{IsGraph}
 
 module _ {V : Type 0} (g : Graph V) (laws : IsGraph g) (key : V) (done : List V) (found : List (Found V))
     (path : List ℕ) (next : ℕ) (top : V) (w : Walked g key done found path next top) where
@@ -118,33 +120,25 @@ module _ {V : Type 0} (g : Graph V) (laws : IsGraph g) (key : V) (done : List V)
       by (inl h) = h
       by (inr (r, us, h, e)) = let x = leads_by g rs (r ∷ us) key d e l in absurd (no_steps r x.0 h x.1)
 
-  pub ends_below : (rs : List ℕ) (name : EndName V) → EndsAs g key rs name → Less rs (next ∷ [])
-  ends_below rs name l = by (rank_cases [] rs next)
+  pub ends_below : (rs : List ℕ) (mark : Mark V) → EndsAs g key rs mark → Less rs (next ∷ [])
+  ends_below rs mark l = by (rank_cases [] rs next)
     where
-      no : (r : ℕ) (us : List ℕ) → next ≤ r → EndsAs g key (r ∷ us) name → ⊥
+      no : (r : ℕ) (us : List ℕ) → next ≤ r → EndsAs g key (r ∷ us) mark → ⊥
       no r us h (inl x) = no_stops r h x.0
       no r us h (inr x) = no_steps r x.0 h x.1
 
       by : Less rs (next ∷ []) ⊎ ((r : ℕ) × (us : List ℕ) × (next ≤ r) × (rs ≡ r ∷ us)) → Less rs (next ∷ [])
       by (inl h) = h
-      by (inr (r, us, h, e)) = absurd (no r us h (subst (λ v. EndsAs g key v name) e l))
+      by (inr (r, us, h, e)) = absurd (no r us h (subst (λ v. EndsAs g key v mark) e l))
 
   pub no_loop : HasNoLoop g key
   no_loop ls ds d l = no_loop_below g laws key done found [] next key w ls ds d l (all_below ls d l.leads)
 
-  pub report : IsReport g key found
-  report = record {
-    each = λ e k. (w.sound e k).0;
-    all = all;
-    once = w.once;
-    least = λ e rs k. w.least e rs k;
-    rising = w.rising;
-  }
-    where
-      all : (rs : List ℕ) (name : EndName V) → EndsAs g key rs name → Contains (names_of found) name
-      all rs name x =
-          let (e, k, n, o) = w.complete rs name (ends_below rs name x) x in
-          subst (λ v. Contains (names_of found) v) n (has_map (λ (v : Found V). v.name) found e k)
+  -- each end's mark was found
+  pub all_found : (rs : List ℕ) (mark : Mark V) → EndsAs g key rs mark → Contains (marks_of found) mark
+  all_found rs mark x =
+      let (e, k, n, o) = w.complete rs mark (ends_below rs mark x) x in
+      subst (λ v. Contains (marks_of found) v) n (has_map (λ (v : Found V). v.mark) found e k)
 
   -- each domain to which some derivation leads is finished, or the key
   pub all_met : (rs : List ℕ) (d : V) → Leads g key rs d → Contains done d ⊎ (key ≡ d)

@@ -1,10 +1,11 @@
 -- How many elements lists without repeats have.
-use Rattle.std.proofs.Common.{◌≡◌, ℕ, suc, ◌+◌, ◌≤◌, ◌⊎◌, List, [], ◌∷◌, ◌++◌, length, sym, ap, subst, inl, inr, arith, length-append}
+use Rattle.std.proofs.Common.{◌≡◌, suc, ◌≤◌, ◌⊎◌, List, [], ◌∷◌, ◌++◌, length, sym, ap, subst, inl, inr, arith, length-append}
 use Rattle.std.specs.Prelude.{Contains}
 use Rattle.std.proofs.lemmas.List.Elements.{Contains-append_left, Contains-append_right, Contains-append_cases}
-use Rattle.ddds_walk.specs.Graph.{Graph, Leads}
-use Rattle.ddds_walk.specs.Report.{AreDistinct, IsNeeded, AreNeeded}
-use Rattle.ddds_walk.proofs.Lists.{has_cons, has_head, has_tail, has_same, has_cut}
+use Rattle.ddds_walk.specs.Graph.{Graph}
+use Rattle.ddds_walk.specs.Report.{AreNeeded}
+use Rattle.naptr_data.specs.Sources.{AreDistinct}
+use Rattle.ddds_walk.proofs.Elements.{has_cons, has_head, has_tail, has_same, has_cut}
 
 module _ {X : Type 0} where
   -- a list without repeats is no longer than one that has all its elements
@@ -41,25 +42,4 @@ module _ {X : Type 0} where
 module _ {V : Type 0} (g : Graph V) (key : V) where
   -- the number of needed domains does not depend on how they are listed
   pub needed_count : (ds es : List V) → AreNeeded g key ds → AreNeeded g key es → length ds ≡ length es
-  needed_count ds es a b = equally_long ds es a.once b.once (λ d k. b.all d (a.only d k)) (λ d k. a.all d (b.only d k))
-
-  -- a derivation leads to the key, or to the target of some step
-  pub leads_target : (ts : List V) → ((d m : V) (r : ℕ) → g.Steps d r m → Contains ts m)
-      → (rs : List ℕ) (k d : V) → Leads g k rs d → (k ≡ d) ⊎ Contains ts d
-  leads_target ts all [] k d l = inl l
-  leads_target ts all (r ∷ rs) k d (m, s, l) = inr (by (leads_target ts all rs m d l))
-    where
-      by : (m ≡ d) ⊎ Contains ts d → Contains ts d
-      by (inl e) = has_same ts m d e (all k m r s)
-      by (inr k) = k
-
-  -- where every step leads to one of the targets, at most one more than these are needed
-  pub needed_bound : (ts ds : List V) → ((d m : V) (r : ℕ) → g.Steps d r m → Contains ts m)
-      → AreDistinct ds → ((d : V) → Contains ds d → IsNeeded g key d) → length ds ≤ length ts + 1
-  needed_bound ts ds all u n =
-      let h : length ds ≤ length (key ∷ ts) = distinct_fits ds (key ∷ ts) u (λ d k. by d (leads_target ts all (n d k).0 key d (n d k).1)) in
-      omega arith
-    where
-      by : (d : V) → (key ≡ d) ⊎ Contains ts d → Contains (key ∷ ts) d
-      by d (inl e) = has_same (key ∷ ts) key d e (has_head ts key)
-      by d (inr k) = has_tail ts key d k
+  needed_count ds es a b = equally_long ds es a.some.once b.some.once (λ d k. b.all d (a.some.only d k)) (λ d k. a.all d (b.some.only d k))

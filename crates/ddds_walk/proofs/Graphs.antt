@@ -2,8 +2,9 @@
 use Rattle.std.proofs.Common.{◌≡◌, ℕ, ◌⊎◌, List, [], ◌∷◌, ◌++◌, refl, sym, ◌∙◌, ap, subst, inl, inr}
 use Rattle.std.specs.Prelude.{Contains}
 use Rattle.std.proofs.lemmas.List.Elements.{Contains-append_right}
-use Rattle.ddds_walk.specs.Graph.{Graph, IsGraph, EndName, by_rule, by_domain, Leads, Passes, EndsAs}
-use Rattle.ddds_walk.proofs.Lists.{has_none, has_cons, has_head, has_tail, has_same}
+use Rattle.ddds_walk.specs.Graph.{Graph, Leads, Passes}
+use Rattle.ddds_walk.specs.Ways.{IsGraph, Mark, by_rule, by_domain, EndsAs}
+use Rattle.ddds_walk.proofs.Elements.{has_none, has_cons, has_head, has_tail, has_same}
 
 module _ {V : Type 0} (g : Graph V) where
   pub leads_join : (a b : List ℕ) (k m d : V) → Leads g k a m → Leads g m b d → Leads g k (a ++ b) d
@@ -22,17 +23,17 @@ module _ {V : Type 0} (g : Graph V) where
   pub leads_step : (r : ℕ) (k d : V) → g.Steps k r d → Leads g k (r ∷ []) d
   leads_step r k d s = (d, s, refl)
 
-  pub ends_join : (a b : List ℕ) (k m : V) (e : EndName V) → Leads g k a m → EndsAs g m b e → EndsAs g k (a ++ b) e
+  pub ends_join : (a b : List ℕ) (k m : V) (e : Mark V) → Leads g k a m → EndsAs g m b e → EndsAs g k (a ++ b) e
   ends_join [] b k m e h j = subst (λ w. EndsAs g w b e) (sym h) j
   ends_join (r ∷ a) b k m e (n, s, h) j = inr (n, s, ends_join a b n m e h j)
 
-  pub ends_by : (a b : List ℕ) (k : V) (e : EndName V) → a ≡ b → EndsAs g k a e → EndsAs g k b e
+  pub ends_by : (a b : List ℕ) (k : V) (e : Mark V) → a ≡ b → EndsAs g k a e → EndsAs g k b e
   ends_by a b k e p h = subst (λ w. EndsAs g k w e) p h
 
-  pub ends_named : (a : List ℕ) (k : V) (d e : EndName V) → d ≡ e → EndsAs g k a d → EndsAs g k a e
-  ends_named a k d e p h = subst (λ w. EndsAs g k a w) p h
+  pub ends_marked : (a : List ℕ) (k : V) (d e : Mark V) → d ≡ e → EndsAs g k a d → EndsAs g k a e
+  ends_marked a k d e p h = subst (λ w. EndsAs g k a w) p h
 
-  -- the end of a rule's name is reached by that rule's edge, behind a derivation to its domain
+  -- the end of a rule's mark is reached by that rule's edge, behind a derivation to its domain
   pub ends_by_rule : (qs : List ℕ) (k t : V) (n : ℕ) → EndsAs g k qs (by_rule t n)
       → (p : List ℕ) × (qs ≡ p ++ n ∷ []) × Leads g k p t × g.Stops t n
   ends_by_rule [] k t n (o, e) = cc
@@ -64,7 +65,7 @@ module _ {V : Type 0} (g : Graph V) (laws : IsGraph g) where
   leads_rest (r ∷ a) b k m d (n, s, h) (i, t, j) =
       leads_rest a b i m d (leads_from g (a ++ b) n i d (laws.one k r n i s t) h) j
 
-  pub ends_rest : (a b : List ℕ) (k m : V) (e : EndName V) → EndsAs g k (a ++ b) e → Leads g k a m → EndsAs g m b e
+  pub ends_rest : (a b : List ℕ) (k m : V) (e : Mark V) → EndsAs g k (a ++ b) e → Leads g k a m → EndsAs g m b e
   ends_rest [] b k m e h j = subst (λ w. EndsAs g w b e) j h
   ends_rest (r ∷ a) b k m e (inl (s, f, x)) (i, t, j) = absurd (laws.either k r i t s)
   ends_rest (r ∷ a) b k m e (inr (n, s, h)) (i, t, j) =

@@ -2,44 +2,49 @@
 use Rattle.std.proofs.Common.{◌≡◌, ℕ, zero, suc, ◌≤◌, ◌⊎◌, List, [], ◌∷◌, ◌++◌, refl, sym, ◌∙◌, ap, subst, inl, inr, append_assoc, append-nil, arith}
 use Rattle.std.specs.Prelude.{Contains}
 use Rattle.std.proofs.lemmas.List.Elements.{Contains-append_left, Contains-push, Contains-push_cases}
-use Rattle.ddds_walk.specs.Graph.{Graph, IsGraph, EndName, by_domain, Found, Leads, EndsAs}
+use Rattle.ddds_walk.specs.Graph.{Graph, Leads}
 use Rattle.ddds_walk.specs.Order.{Less, AreRising}
-use Rattle.ddds_walk.specs.Report.{AreDistinct, ranks_of, names_of}
+use Rattle.ddds_walk.specs.Ways.{Mark, by_domain, Found, EndsAs, ranks_of, marks_of, Walked}
+use Rattle.naptr_data.specs.Sources.{AreDistinct}
 use Rattle.ddds_walk.proofs.Order.{less_trans, less_longer, less_next, less_on, next_rank, enter_rank, rank_cases}
-use Rattle.ddds_walk.proofs.Lists.{cut_last, has_none, has_same}
-use Rattle.ddds_walk.proofs.Graphs.{leads_join, leads_to, leads_by, ends_join, ends_by, ends_named, ends_by_domain, leads_one, leads_rest, ends_rest}
-use Rattle.ddds_walk.proofs.Walked.{Walked, Adds}
+use Rattle.ddds_walk.proofs.Elements.{cut_last, has_none, has_same}
+use Rattle.ddds_walk.proofs.Graphs.{leads_join, leads_to, leads_by, ends_join, ends_by, ends_marked, ends_by_domain, leads_one, leads_rest, ends_rest}
+use Rattle.ddds_walk.specs.Ways.{IsGraph}
 use Rattle.ddds_walk.proofs.Steps.{as_found, fresh_ends}
 
-module _ {V : Type 0} (old new : List (Found V)) (ranks : List ℕ) (name : EndName V) (P : Type 0)
-    (a : Adds old new ranks name P) where
-  pub adds_grew : (e : Found V) → Contains new e → Contains old e ⊎ (P × (as_found ranks name ≡ e))
+-- the list of ends has one more where P holds, and is as before where it does not
+pub record Adds {V : Type 0} (old new : List (Found V)) (ranks : List ℕ) (mark : Mark V) (P : Type 0) : Type 0 where
+  pub cases : (P × (new ≡ old ++ as_found ranks mark ∷ [])) ⊎ ((P → ⊥) × (new ≡ old))
+
+module _ {V : Type 0} (old new : List (Found V)) (ranks : List ℕ) (mark : Mark V) (P : Type 0)
+    (a : Adds old new ranks mark P) where
+  pub adds_grew : (e : Found V) → Contains new e → Contains old e ⊎ (P × (as_found ranks mark ≡ e))
   adds_grew e k = by a.cases
     where
-      more : P → Contains old e ⊎ (as_found ranks name ≡ e) → Contains old e ⊎ (P × (as_found ranks name ≡ e))
+      more : P → Contains old e ⊎ (as_found ranks mark ≡ e) → Contains old e ⊎ (P × (as_found ranks mark ≡ e))
       more p (inl h) = inl h
       more p (inr h) = inr (p, h)
 
-      by : (P × (new ≡ old ++ as_found ranks name ∷ [])) ⊎ ((P → ⊥) × (new ≡ old))
-          → Contains old e ⊎ (P × (as_found ranks name ≡ e))
+      by : (P × (new ≡ old ++ as_found ranks mark ∷ [])) ⊎ ((P → ⊥) × (new ≡ old))
+          → Contains old e ⊎ (P × (as_found ranks mark ≡ e))
       by (inl (p, i)) =
-          more p (Contains-push_cases old (as_found ranks name) e (subst (λ v. Contains v e) i k))
+          more p (Contains-push_cases old (as_found ranks mark) e (subst (λ v. Contains v e) i k))
       by (inr (n, i)) = inl (subst (λ v. Contains v e) i k)
 
   pub adds_kept : (e : Found V) → Contains old e → Contains new e
   adds_kept e k = by a.cases
     where
-      by : (P × (new ≡ old ++ as_found ranks name ∷ [])) ⊎ ((P → ⊥) × (new ≡ old)) → Contains new e
+      by : (P × (new ≡ old ++ as_found ranks mark ∷ [])) ⊎ ((P → ⊥) × (new ≡ old)) → Contains new e
       by (inl (p, i)) =
-          subst (λ v. Contains v e) (sym i) (Contains-append_left old (as_found ranks name ∷ []) e k)
+          subst (λ v. Contains v e) (sym i) (Contains-append_left old (as_found ranks mark ∷ []) e k)
       by (inr (n, i)) = subst (λ v. Contains v e) (sym i) k
 
-  pub adds_there : P → Contains new (as_found ranks name)
+  pub adds_there : P → Contains new (as_found ranks mark)
   adds_there p = by a.cases
     where
-      by : (P × (new ≡ old ++ as_found ranks name ∷ [])) ⊎ ((P → ⊥) × (new ≡ old)) → Contains new (as_found ranks name)
+      by : (P × (new ≡ old ++ as_found ranks mark ∷ [])) ⊎ ((P → ⊥) × (new ≡ old)) → Contains new (as_found ranks mark)
       by (inl (q, i)) =
-          subst (λ v. Contains v (as_found ranks name)) (sym i) (Contains-push old (as_found ranks name))
+          subst (λ v. Contains v (as_found ranks mark)) (sym i) (Contains-push old (as_found ranks mark))
       by (inr (n, i)) = absurd (n p)
 
 module _ {V : Type 0} (g : Graph V) (laws : IsGraph g) (key : V) where
@@ -49,7 +54,7 @@ module _ {V : Type 0} (g : Graph V) (laws : IsGraph g) (key : V) where
   start found a = record {
     here = refl;
     sound = λ e k. sound e (adds_grew [] found [] (by_domain key) (g.Open key) a e k);
-    complete = λ rs name l x. complete rs name (empty rs l) x;
+    complete = λ rs mark l x. complete rs mark (empty rs l) x;
     least = λ e qs k. least e qs (adds_grew [] found [] (by_domain key) (g.Open key) a e k);
     simple = λ x r y d l h i. more x r y (empty (x ++ r ∷ y) i);
     first = λ d k. absurd (has_none d k);
@@ -69,36 +74,36 @@ module _ {V : Type 0} (g : Graph V) (laws : IsGraph g) (key : V) where
       more (n ∷ x) r y e = cc
 
       sound : (e : Found V) → Contains [] e ⊎ (g.Open key × (as_found [] (by_domain key) ≡ e))
-          → EndsAs g key e.ranks e.name × Less e.ranks (zero ∷ [])
+          → EndsAs g key e.ranks e.mark × Less e.ranks (zero ∷ [])
       sound e (inl k) = absurd (has_none e k)
       sound e (inr (o, i)) =
-          let P : Found V → Type 0 = λ v. EndsAs g key v.ranks v.name × Less v.ranks (zero ∷ []) in
+          let P : Found V → Type 0 = λ v. EndsAs g key v.ranks v.mark × Less v.ranks (zero ∷ []) in
           subst P i ((o, refl), tt)
 
       least : (e : Found V) (qs : List ℕ) → Contains [] e ⊎ (g.Open key × (as_found [] (by_domain key) ≡ e))
-          → EndsAs g key qs e.name → Less qs e.ranks → ⊥
+          → EndsAs g key qs e.mark → Less qs e.ranks → ⊥
       least e qs (inl k) x l = has_none e k
       least e qs (inr (o, i)) x l = subst (λ v. Less qs v) (sym (ap (λ (v : Found V). v.ranks) i)) l
 
-      complete : (rs : List ℕ) (name : EndName V) → rs ≡ [] → EndsAs g key rs name
-          → (e : Found V) × Contains found e × (e.name ≡ name) × ((e.ranks ≡ rs) ⊎ Less e.ranks rs)
-      complete rs name i x =
-          let (o, n) = ends_by g rs [] key name i x in
+      complete : (rs : List ℕ) (mark : Mark V) → rs ≡ [] → EndsAs g key rs mark
+          → (e : Found V) × Contains found e × (e.mark ≡ mark) × ((e.ranks ≡ rs) ⊎ Less e.ranks rs)
+      complete rs mark i x =
+          let (o, n) = ends_by g rs [] key mark i x in
           (as_found [] (by_domain key), adds_there [] found [] (by_domain key) (g.Open key) a o, sym n, inl (sym i))
 
-      ends : AreDistinct (names_of found) × AreRising (ranks_of found)
+      ends : AreDistinct (marks_of found) × AreRising (ranks_of found)
       ends = by a.cases
         where
           none : (x : V) → (xs : List V) → Contains [] x → ⊥
           none x xs k = has_none x k
 
           by : (g.Open key × (found ≡ [] ++ as_found [] (by_domain key) ∷ [])) ⊎ ((g.Open key → ⊥) × (found ≡ []))
-              → AreDistinct (names_of found) × AreRising (ranks_of found)
+              → AreDistinct (marks_of found) × AreRising (ranks_of found)
           by (inl (o, i)) =
-              let P : List (Found V) → Type 0 = λ v. AreDistinct (names_of v) × AreRising (ranks_of v) in
+              let P : List (Found V) → Type 0 = λ v. AreDistinct (marks_of v) × AreRising (ranks_of v) in
               subst P (sym i) (((λ k. has_none (by_domain key) k), tt), ((λ y k. absurd (has_none y k)), tt))
           by (inr (o, i)) =
-              let P : List (Found V) → Type 0 = λ v. AreDistinct (names_of v) × AreRising (ranks_of v) in
+              let P : List (Found V) → Type 0 = λ v. AreDistinct (marks_of v) × AreRising (ranks_of v) in
               subst P (sym i) (tt, tt)
 
 module _ {V : Type 0} (g : Graph V) (laws : IsGraph g) (key : V) (done : List V) (found : List (Found V))
@@ -111,7 +116,7 @@ module _ {V : Type 0} (g : Graph V) (laws : IsGraph g) (key : V) (done : List V)
   enter grown m s undone new a = record {
     here = to_m;
     sound = λ e k. sound e (grew e k);
-    complete = λ rs name l x. complete rs name (enter_rank rs (path ++ next ∷ []) l) x;
+    complete = λ rs mark l x. complete rs mark (enter_rank rs (path ++ next ∷ []) l) x;
     least = λ e qs k. least e qs (grew e k);
     simple = λ x r y d l h i. simple x r y d l h (enter_rank (x ++ r ∷ y) (path ++ next ∷ []) i);
     first = λ d k. let x = w.first d k in (x.0, x.1, λ ts. down (x.0 ++ ts) (x.2 ts));
@@ -150,24 +155,24 @@ module _ {V : Type 0} (g : Graph V) (laws : IsGraph g) (key : V) (done : List V)
       fresh : (qs : List ℕ) → EndsAs g key qs (by_domain m) → Less qs (path ++ next ∷ []) → ⊥
       fresh qs x l = unmet qs (ends_by_domain g qs key m x).0 l
 
-      ends : AreDistinct (names_of grown) × AreRising (ranks_of grown)
+      ends : AreDistinct (marks_of grown) × AreRising (ranks_of grown)
       ends = by a.cases
         where
           by : (g.Open m × (grown ≡ found ++ as_found (path ++ next ∷ []) (by_domain m) ∷ [])) ⊎ ((g.Open m → ⊥) × (grown ≡ found))
-              → AreDistinct (names_of grown) × AreRising (ranks_of grown)
+              → AreDistinct (marks_of grown) × AreRising (ranks_of grown)
           by (inl (o, i)) =
               fresh_ends g laws key done found path next top w (path ++ next ∷ []) (by_domain m) grown i
               (λ e k. (w.sound e k).1)
-              (λ e k n. let x = w.sound e k in fresh e.ranks (ends_named g e.ranks key e.name (by_domain m) n x.0) x.1)
+              (λ e k n. let x = w.sound e k in fresh e.ranks (ends_marked g e.ranks key e.mark (by_domain m) n x.0) x.1)
           by (inr (o, i)) =
-              let P : List (Found V) → Type 0 = λ v. AreDistinct (names_of v) × AreRising (ranks_of v) in
+              let P : List (Found V) → Type 0 = λ v. AreDistinct (marks_of v) × AreRising (ranks_of v) in
               subst P (sym i) (w.once, w.rising)
 
       sound : (e : Found V) → Contains found e ⊎ (g.Open m × (it ≡ e))
-          → EndsAs g key e.ranks e.name × Less e.ranks (path ++ next ∷ [] ++ zero ∷ [])
+          → EndsAs g key e.ranks e.mark × Less e.ranks (path ++ next ∷ [] ++ zero ∷ [])
       sound e (inl k) = let x = w.sound e k in (x.0, down e.ranks x.1)
       sound e (inr (o, i)) =
-          let P : Found V → Type 0 = λ v. EndsAs g key v.ranks v.name × Less v.ranks (path ++ next ∷ [] ++ zero ∷ []) in
+          let P : Found V → Type 0 = λ v. EndsAs g key v.ranks v.mark × Less v.ranks (path ++ next ∷ [] ++ zero ∷ []) in
           let x : EndsAs g key (path ++ next ∷ [] ++ []) (by_domain m) =
           ends_join g (path ++ next ∷ []) [] key m (by_domain m) to_m (o, refl) in
           subst P i (
@@ -176,19 +181,19 @@ module _ {V : Type 0} (g : Graph V) (laws : IsGraph g) (key : V) (done : List V)
           )
 
       least : (e : Found V) (qs : List ℕ) → Contains found e ⊎ (g.Open m × (it ≡ e))
-          → EndsAs g key qs e.name → Less qs e.ranks → ⊥
+          → EndsAs g key qs e.mark → Less qs e.ranks → ⊥
       least e qs (inl k) x l = w.least e qs k x l
       least e qs (inr (o, i)) x l =
-          fresh qs (ends_named g qs key e.name (by_domain m) (sym (ap (λ (v : Found V). v.name) i)) x)
+          fresh qs (ends_marked g qs key e.mark (by_domain m) (sym (ap (λ (v : Found V). v.mark) i)) x)
           (subst (λ v. Less qs v) (sym (ap (λ (v : Found V). v.ranks) i)) l)
 
-      complete : (rs : List ℕ) (name : EndName V) → Less rs (path ++ next ∷ []) ⊎ (rs ≡ path ++ next ∷ [])
-          → EndsAs g key rs name
-          → (e : Found V) × Contains grown e × (e.name ≡ name) × ((e.ranks ≡ rs) ⊎ Less e.ranks rs)
-      complete rs name (inl l) x = let (e, k, n, o) = w.complete rs name l x in (e, kept e k, n, o)
-      complete rs name (inr i) x =
-          let (o, n) = ends_rest g laws (path ++ next ∷ []) [] key m name
-          (ends_by g rs (path ++ next ∷ [] ++ []) key name (i ∙ sym (append-nil (path ++ next ∷ []))) x) to_m in
+      complete : (rs : List ℕ) (mark : Mark V) → Less rs (path ++ next ∷ []) ⊎ (rs ≡ path ++ next ∷ [])
+          → EndsAs g key rs mark
+          → (e : Found V) × Contains grown e × (e.mark ≡ mark) × ((e.ranks ≡ rs) ⊎ Less e.ranks rs)
+      complete rs mark (inl l) x = let (e, k, n, o) = w.complete rs mark l x in (e, kept e k, n, o)
+      complete rs mark (inr i) x =
+          let (o, n) = ends_rest g laws (path ++ next ∷ []) [] key m mark
+          (ends_by g rs (path ++ next ∷ [] ++ []) key mark (i ∙ sym (append-nil (path ++ next ∷ []))) x) to_m in
           (it, there o, sym n, inl (sym i))
 
       simple : (x : List ℕ) (r : ℕ) (y : List ℕ) (d : V) → Leads g key x d → Leads g d (r ∷ y) d
@@ -232,7 +237,7 @@ module _ {V : Type 0} (g : Graph V) (laws : IsGraph g) (key : V) (done : List V)
   leave up l no_steps no_stops = record {
     here = l;
     sound = λ e k. let x = w.sound e k in (x.0, above e.ranks x.1);
-    complete = λ rs name i x. complete rs name (low rs i) x;
+    complete = λ rs mark i x. complete rs mark (low rs i) x;
     least = w.least;
     simple = λ x r y d h i j. simple x r y d h i (low (x ++ r ∷ y) j);
     first = λ d k. first d (Contains-push_cases done top d k);
@@ -274,19 +279,19 @@ module _ {V : Type 0} (g : Graph V) (laws : IsGraph g) (key : V) (done : List V)
       no_way r us d i h =
           let (n, t, x) = leads_rest g laws (path ++ last ∷ []) (r ∷ us) key top d h w.here in no_steps r n i t
 
-      no_end : (r : ℕ) (us : List ℕ) (name : EndName V) → next ≤ r → EndsAs g top (r ∷ us) name → ⊥
-      no_end r us name i (inl (t, e, f)) = no_stops r i t
-      no_end r us name i (inr (n, t, x)) = no_steps r n i t
+      no_end : (r : ℕ) (us : List ℕ) (mark : Mark V) → next ≤ r → EndsAs g top (r ∷ us) mark → ⊥
+      no_end r us mark i (inl (t, e, f)) = no_stops r i t
+      no_end r us mark i (inr (n, t, x)) = no_steps r n i t
 
-      complete : (rs : List ℕ) (name : EndName V)
+      complete : (rs : List ℕ) (mark : Mark V)
           → Less rs (path ++ last ∷ [] ++ next ∷ [])
           ⊎ ((r : ℕ) × (us : List ℕ) × (next ≤ r) × (rs ≡ path ++ last ∷ [] ++ r ∷ us))
-          → EndsAs g key rs name
-          → (e : Found V) × Contains found e × (e.name ≡ name) × ((e.ranks ≡ rs) ⊎ Less e.ranks rs)
-      complete rs name (inl i) x = w.complete rs name i x
-      complete rs name (inr (r, us, i, e)) x =
-          absurd (no_end r us name i (ends_rest g laws (path ++ last ∷ []) (r ∷ us) key top name
-          (ends_by g rs (path ++ last ∷ [] ++ r ∷ us) key name e x) w.here))
+          → EndsAs g key rs mark
+          → (e : Found V) × Contains found e × (e.mark ≡ mark) × ((e.ranks ≡ rs) ⊎ Less e.ranks rs)
+      complete rs mark (inl i) x = w.complete rs mark i x
+      complete rs mark (inr (r, us, i, e)) x =
+          absurd (no_end r us mark i (ends_rest g laws (path ++ last ∷ []) (r ∷ us) key top mark
+          (ends_by g rs (path ++ last ∷ [] ++ r ∷ us) key mark e x) w.here))
 
       simple : (x : List ℕ) (s : ℕ) (y : List ℕ) (d : V) → Leads g key x d → Leads g d (s ∷ y) d
           → Less (x ++ s ∷ y) (path ++ last ∷ [] ++ next ∷ [])

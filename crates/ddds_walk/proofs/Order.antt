@@ -3,7 +3,7 @@ use Rattle.std.proofs.Common.{◌≡◌, ℕ, zero, suc, ◌<◌, ◌≤◌, ◌
 use Rattle.std.specs.Prelude.{Contains}
 use Rattle.std.proofs.lemmas.List.Elements.{Contains-push_cases}
 use Rattle.ddds_walk.specs.Order.{Less, AreRising}
-use Rattle.ddds_walk.proofs.Lists.{has_none, has_head, has_tail}
+use Rattle.ddds_walk.proofs.Elements.{has_none, has_head, has_tail}
 
 pub less_irrefl : (xs : List ℕ) → Less xs xs → ⊥
 less_irrefl [] h = h
@@ -44,6 +44,10 @@ less_cases (x ∷ xs) (y ∷ ys) = by_head (order_of x y) (less_cases xs ys)
 pub less_front : (p xs ys : List ℕ) → Less xs ys → Less (p ++ xs) (p ++ ys)
 less_front [] xs ys h = h
 less_front (x ∷ p) xs ys h = inr (refl, less_front p xs ys h)
+
+pub less_tail : (x : ℕ) (xs ys : List ℕ) → Less (x ∷ xs) (x ∷ ys) → Less xs ys
+less_tail x xs ys (inl h) = absurd (omega arith)
+less_tail x xs ys (inr h) = h.1
 
 pub less_longer : (p : List ℕ) (x : ℕ) (xs : List ℕ) → Less p (p ++ x ∷ xs)
 less_longer [] x xs = tt

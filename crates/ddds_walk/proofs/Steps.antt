@@ -3,17 +3,18 @@ use Rattle.std.proofs.Common.{◌≡◌, ℕ, suc, ◌⊎◌, List, [], ◌∷�
 use Rattle.std.specs.Prelude.{Contains}
 use Rattle.std.proofs.lemmas.List.Elements.{Contains-append_left, Contains-push, Contains-push_cases}
 use Rattle.std.proofs.lemmas.List.{map-append}
-use Rattle.ddds_walk.specs.Graph.{Graph, IsGraph, EndName, by_rule, Found, Leads, EndsAs}
+use Rattle.ddds_walk.specs.Graph.{Graph, Leads}
 use Rattle.ddds_walk.specs.Order.{Less, AreRising}
-use Rattle.ddds_walk.specs.Report.{AreDistinct, ranks_of, names_of}
+use Rattle.ddds_walk.specs.Ways.{Mark, by_rule, Found, EndsAs, ranks_of, marks_of, Walked}
+use Rattle.naptr_data.specs.Sources.{AreDistinct}
 use Rattle.ddds_walk.proofs.Order.{less_irrefl, less_trans, less_longer, less_next, less_on, less_begin, next_rank, rising_push}
-use Rattle.ddds_walk.proofs.Lists.{cuts, has_same, has_unmap, distinct_push}
-use Rattle.ddds_walk.proofs.Graphs.{leads_join, leads_from, leads_by, ends_join, ends_by, ends_named, ends_by_rule, leads_rest, ends_rest}
-use Rattle.ddds_walk.proofs.Walked.{Walked}
+use Rattle.ddds_walk.proofs.Elements.{cuts, has_same, has_unmap, distinct_push}
+use Rattle.ddds_walk.proofs.Graphs.{leads_join, leads_from, leads_by, ends_join, ends_by, ends_marked, ends_by_rule, leads_rest, ends_rest}
+use Rattle.ddds_walk.specs.Ways.{IsGraph}
 
--- the ranks and the name of an end, as it is kept
-abbrev pub as_found : {V : Type 0} → List ℕ → EndName V → Found V
-as_found ranks name = record { ranks = ranks; name = name }
+-- the ranks and the mark of an end, as it is kept
+abbrev pub as_found : {V : Type 0} → List ℕ → Mark V → Found V
+as_found ranks mark = record { ranks = ranks; mark = mark }
 
 module _ {V : Type 0} (g : Graph V) (laws : IsGraph g) (key : V) (done : List V) (found : List (Found V))
     (path : List ℕ) (next : ℕ) (top : V) (w : Walked g key done found path next top) where
@@ -52,23 +53,23 @@ module _ {V : Type 0} (g : Graph V) (laws : IsGraph g) (key : V) (done : List V)
       by (inl k) = absurd (w.apart path [] top (sym (append-nil path)) w.here k)
       by (inr (c, e)) = on c e
 
-  -- a list of ends that grew by one at the cursor or above it still rises, and has no name twice
-  pub fresh_ends : (rs : List ℕ) (name : EndName V) (xs : List (Found V))
-      → xs ≡ found ++ as_found rs name ∷ []
+  -- a list of ends that grew by one at the cursor or above it still rises, and has no mark twice
+  pub fresh_ends : (rs : List ℕ) (mark : Mark V) (xs : List (Found V))
+      → xs ≡ found ++ as_found rs mark ∷ []
       → ((e : Found V) → Contains found e → Less e.ranks rs)
-      → ((e : Found V) → Contains found e → e.name ≡ name → ⊥)
-      → AreDistinct (names_of xs) × AreRising (ranks_of xs)
-  fresh_ends rs name xs e below new =
-      let n : names_of xs ≡ names_of found ++ name ∷ [] =
-      ap names_of e ∙ map-append (λ (v : Found V). v.name) found (as_found rs name ∷ []) in
+      → ((e : Found V) → Contains found e → e.mark ≡ mark → ⊥)
+      → AreDistinct (marks_of xs) × AreRising (ranks_of xs)
+  fresh_ends rs mark xs e below new =
+      let n : marks_of xs ≡ marks_of found ++ mark ∷ [] =
+      ap marks_of e ∙ map-append (λ (v : Found V). v.mark) found (as_found rs mark ∷ []) in
       let r : ranks_of xs ≡ ranks_of found ++ rs ∷ [] =
-      ap ranks_of e ∙ map-append (λ (v : Found V). v.ranks) found (as_found rs name ∷ []) in (
-        subst (λ v. AreDistinct v) (sym n) (distinct_push (names_of found) name w.once once),
+      ap ranks_of e ∙ map-append (λ (v : Found V). v.ranks) found (as_found rs mark ∷ []) in (
+        subst (λ v. AreDistinct v) (sym n) (distinct_push (marks_of found) mark w.once once),
         subst (λ v. AreRising v) (sym r) (rising_push (ranks_of found) rs w.rising rises),
       )
     where
-      once : Contains (names_of found) name → ⊥
-      once h = let (x, k, f) = has_unmap (λ (v : Found V). v.name) found name h in new x k f
+      once : Contains (marks_of found) mark → ⊥
+      once h = let (x, k, f) = has_unmap (λ (v : Found V). v.mark) found mark h in new x k f
 
       rises : (x : List ℕ) → Contains (ranks_of found) x → Less x rs
       rises x h =
@@ -84,7 +85,7 @@ module _ {V : Type 0} (g : Graph V) (laws : IsGraph g) (key : V) (done : List V)
   skip m s h = record {
     here = w.here;
     sound = λ e k. let x = w.sound e k in (x.0, up e.ranks x.1);
-    complete = λ rs name l x. complete rs name x (next_rank rs path next l);
+    complete = λ rs mark l x. complete rs mark x (next_rank rs path next l);
     least = w.least;
     simple = λ a r b d l x y. simple a r b d l x (next_rank (a ++ r ∷ b) path next y);
     first = λ d k. let x = w.first d k in (x.0, x.1, λ ts. up (x.0 ++ ts) (x.2 ts));
@@ -113,19 +114,19 @@ module _ {V : Type 0} (g : Graph V) (laws : IsGraph g) (key : V) (done : List V)
       done_on ts d l = closed_along ts m d h (from_m ts d l)
 
       -- an end through the edge is reached from m too
-      end_m : (ts : List ℕ) (name : EndName V) → EndsAs g top (next ∷ ts) name → EndsAs g m ts name
-      end_m ts name (inl x) = absurd (laws.either top next m s x.0)
-      end_m ts name (inr (n, t, x)) = subst (λ v. EndsAs g v ts name) (laws.one top next n m t s) x
+      end_m : (ts : List ℕ) (mark : Mark V) → EndsAs g top (next ∷ ts) mark → EndsAs g m ts mark
+      end_m ts mark (inl x) = absurd (laws.either top next m s x.0)
+      end_m ts mark (inr (n, t, x)) = subst (λ v. EndsAs g v ts mark) (laws.one top next n m t s) x
 
-      complete : (rs : List ℕ) (name : EndName V) → EndsAs g key rs name
+      complete : (rs : List ℕ) (mark : Mark V) → EndsAs g key rs mark
           → Less rs (path ++ next ∷ []) ⊎ ((ts : List ℕ) × (rs ≡ path ++ next ∷ ts))
-          → (e : Found V) × Contains found e × (e.name ≡ name) × ((e.ranks ≡ rs) ⊎ Less e.ranks rs)
-      complete rs name x (inl l) = w.complete rs name l x
-      complete rs name x (inr (ts, e)) = on (w.complete (q ++ ts) name (all ts) j)
+          → (e : Found V) × Contains found e × (e.mark ≡ mark) × ((e.ranks ≡ rs) ⊎ Less e.ranks rs)
+      complete rs mark x (inl l) = w.complete rs mark l x
+      complete rs mark x (inr (ts, e)) = on (w.complete (q ++ ts) mark (all ts) j)
         where
-          j : EndsAs g key (q ++ ts) name
-          j = ends_join g q ts key m name lq
-              (end_m ts name (ends_rest g laws path (next ∷ ts) key top name (ends_by g rs (path ++ next ∷ ts) key name e x) w.here))
+          j : EndsAs g key (q ++ ts) mark
+          j = ends_join g q ts key m mark lq
+              (end_m ts mark (ends_rest g laws path (next ∷ ts) key top mark (ends_by g rs (path ++ next ∷ ts) key mark e x) w.here))
 
           below : (xs : List ℕ) → (xs ≡ q ++ ts) ⊎ Less xs (q ++ ts) → Less xs (path ++ next ∷ [])
           below xs (inl f) = subst (λ v. Less v (path ++ next ∷ [])) (sym f) (all ts)
@@ -134,8 +135,8 @@ module _ {V : Type 0} (g : Graph V) (laws : IsGraph g) (key : V) (done : List V)
           over : path ++ next ∷ [] ++ ts ≡ rs
           over = append_assoc path (next ∷ []) ts ∙ sym e
 
-          on : (f : Found V) × Contains found f × (f.name ≡ name) × ((f.ranks ≡ q ++ ts) ⊎ Less f.ranks (q ++ ts))
-              → (f : Found V) × Contains found f × (f.name ≡ name) × ((f.ranks ≡ rs) ⊎ Less f.ranks rs)
+          on : (f : Found V) × Contains found f × (f.mark ≡ mark) × ((f.ranks ≡ q ++ ts) ⊎ Less f.ranks (q ++ ts))
+              → (f : Found V) × Contains found f × (f.mark ≡ mark) × ((f.ranks ≡ rs) ⊎ Less f.ranks rs)
           on (f, k, n, o) = (
             f,
             k,
@@ -179,7 +180,7 @@ module _ {V : Type 0} (g : Graph V) (laws : IsGraph g) (key : V) (done : List V)
   stop grown s g-is = record {
     here = w.here;
     sound = λ e k. sound e (grew e k);
-    complete = λ rs name l x. complete rs name x (next_rank rs path next l);
+    complete = λ rs mark l x. complete rs mark x (next_rank rs path next l);
     least = λ e qs k. least e qs (grew e k);
     simple = λ a r b d l x y. simple a r b d l x (next_rank (a ++ r ∷ b) path next y);
     first = λ d k. let x = w.first d k in (x.0, x.1, λ ts. up (x.0 ++ ts) (x.2 ts));
@@ -214,24 +215,24 @@ module _ {V : Type 0} (g : Graph V) (laws : IsGraph g) (key : V) (done : List V)
           less_irrefl (path ++ next ∷ [])
           (subst (λ v. Less v (path ++ next ∷ [])) (e ∙ ap (λ v. v ++ next ∷ []) same) l)
 
-      new : (e : Found V) → Contains found e → e.name ≡ by_rule top next → ⊥
-      new e k n = let x = w.sound e k in fresh e.ranks (ends_named g e.ranks key e.name (by_rule top next) n x.0) x.1
+      new : (e : Found V) → Contains found e → e.mark ≡ by_rule top next → ⊥
+      new e k n = let x = w.sound e k in fresh e.ranks (ends_marked g e.ranks key e.mark (by_rule top next) n x.0) x.1
 
-      ends : AreDistinct (names_of grown) × AreRising (ranks_of grown)
+      ends : AreDistinct (marks_of grown) × AreRising (ranks_of grown)
       ends = fresh_ends (path ++ next ∷ []) (by_rule top next) grown g-is (λ e k. (w.sound e k).1) new
 
       sound : (e : Found V) → Contains found e ⊎ (it ≡ e)
-          → EndsAs g key e.ranks e.name × Less e.ranks (path ++ suc next ∷ [])
+          → EndsAs g key e.ranks e.mark × Less e.ranks (path ++ suc next ∷ [])
       sound e (inl k) = let x = w.sound e k in (x.0, up e.ranks x.1)
       sound e (inr i) =
-          let P : Found V → Type 0 = λ v. EndsAs g key v.ranks v.name × Less v.ranks (path ++ suc next ∷ []) in
+          let P : Found V → Type 0 = λ v. EndsAs g key v.ranks v.mark × Less v.ranks (path ++ suc next ∷ []) in
           subst P i (ends_here, less_next path next [])
 
       least : (e : Found V) (qs : List ℕ) → Contains found e ⊎ (it ≡ e)
-          → EndsAs g key qs e.name → Less qs e.ranks → ⊥
+          → EndsAs g key qs e.mark → Less qs e.ranks → ⊥
       least e qs (inl k) x l = w.least e qs k x l
       least e qs (inr i) x l =
-          fresh qs (ends_named g qs key e.name (by_rule top next) (sym (ap (λ (v : Found V). v.name) i)) x)
+          fresh qs (ends_marked g qs key e.mark (by_rule top next) (sym (ap (λ (v : Found V). v.mark) i)) x)
           (subst (λ v. Less qs v) (sym (ap (λ (v : Found V). v.ranks) i)) l)
 
       -- nothing leads through the edge
@@ -239,17 +240,17 @@ module _ {V : Type 0} (g : Graph V) (laws : IsGraph g) (key : V) (done : List V)
       no_way ts d l =
           let (n, t, x) = leads_rest g laws path (next ∷ ts) key top d l w.here in laws.either top next n t s
 
-      end_here : (ts : List ℕ) (name : EndName V) → EndsAs g top (next ∷ ts) name → (ts ≡ []) × (name ≡ by_rule top next)
-      end_here ts name (inl (t, f, n)) = (f, n)
-      end_here ts name (inr (n, t, x)) = absurd (laws.either top next n t s)
+      end_here : (ts : List ℕ) (mark : Mark V) → EndsAs g top (next ∷ ts) mark → (ts ≡ []) × (mark ≡ by_rule top next)
+      end_here ts mark (inl (t, f, n)) = (f, n)
+      end_here ts mark (inr (n, t, x)) = absurd (laws.either top next n t s)
 
-      complete : (rs : List ℕ) (name : EndName V) → EndsAs g key rs name
+      complete : (rs : List ℕ) (mark : Mark V) → EndsAs g key rs mark
           → Less rs (path ++ next ∷ []) ⊎ ((ts : List ℕ) × (rs ≡ path ++ next ∷ ts))
-          → (e : Found V) × Contains grown e × (e.name ≡ name) × ((e.ranks ≡ rs) ⊎ Less e.ranks rs)
-      complete rs name x (inl l) = let (e, k, n, o) = w.complete rs name l x in (e, kept e k, n, o)
-      complete rs name x (inr (ts, e)) =
-          let (f, n) = end_here ts name
-          (ends_rest g laws path (next ∷ ts) key top name (ends_by g rs (path ++ next ∷ ts) key name e x) w.here) in
+          → (e : Found V) × Contains grown e × (e.mark ≡ mark) × ((e.ranks ≡ rs) ⊎ Less e.ranks rs)
+      complete rs mark x (inl l) = let (e, k, n, o) = w.complete rs mark l x in (e, kept e k, n, o)
+      complete rs mark x (inr (ts, e)) =
+          let (f, n) = end_here ts mark
+          (ends_rest g laws path (next ∷ ts) key top mark (ends_by g rs (path ++ next ∷ ts) key mark e x) w.here) in
           (it, there, sym n, inl (ap (λ v. path ++ next ∷ v) (sym f) ∙ sym e))
 
       simple : (a : List ℕ) (r : ℕ) (b : List ℕ) (d : V) → Leads g key a d → Leads g d (r ∷ b) d

@@ -1,7 +1,12 @@
--- What a resolver can meet on its way: domains, and the numbered edges that lead out of each.
--- RFC 3402, section 3: a rule that is not terminal gives the next key, and a terminal one ends the way.
--- The numbers of the edges and the names of the ends are this project's own.
-use Rattle.std.specs.Prelude.{◌≡◌, ℕ, ◌⊎◌, List, [], ◌∷◌}
+-- Domains and the numbered edges between them. RFC 3402, section 3: a rule that is not terminal gives the next key, and
+-- a terminal one ends the way. The numbers of the edges are this project's own.
+use Rattle.std.specs.Prelude.{◌≡◌, ℕ, List, [], ◌∷◌}
+use Rattle.naptr_data.specs.Zones.{Labels, Zone, IsOffer}
+use Rattle.naptr_data.specs.declared.offer.Offer.TheVariants.{Unserved}
+use Rattle.naptr_data.specs.declared.rule.Naptr.{Naptr}
+use Rattle.ddds_walk.specs.Rules.{Client, IsEdge}
+use Rattle.ddds_walk.specs.declared.edge.Edge.TheVariants.{Step, Stop}
+use Rattle.ddds_walk.specs.declared.lists.Outcome.{Outcome}
 
 -- V is the type of domains
 pub record Graph (V : Type 0) : Type 1 where
@@ -12,20 +17,13 @@ pub record Graph (V : Type 0) : Type 1 where
   -- nobody who is asked serves the domain
   pub Open : V → Type 0
 
--- an edge gives one domain, and does not both go on and end
-pub record IsGraph {V : Type 0} (g : Graph V) : Type 0 where
-  pub one : (d : V) (r : ℕ) (a b : V) → g.Steps d r a → g.Steps d r b → a ≡ b
-  pub either : (d : V) (r : ℕ) (a : V) → g.Steps d r a → g.Stops d r → ⊥
-
--- an end's name: the domain and the rank of the terminal rule, or the domain that nobody serves
-pub data EndName (V : Type 0) : Type 0 where
-  by_rule : V → ℕ → EndName V
-  by_domain : V → EndName V
-
--- an end as it is reported: the derivation that reaches it, and its name
-pub record Found (V : Type 0) : Type 0 where
-  pub ranks : List ℕ
-  pub name : EndName V
+-- the graph that zones make for a client, over folded names
+abbrev pub graph_of : Client → List Zone → Graph Labels
+graph_of c zones = record {
+  Steps = λ d r m. IsEdge c zones d r (Step m);
+  Stops = λ d r. (rule : Naptr) × (outcome : Outcome) × IsEdge c zones d r (Stop rule outcome);
+  Open = λ d. IsOffer zones d Unserved;
+}
 
 module _ {V : Type 0} (g : Graph V) where
   -- the edges of those ranks, one after the other, lead from one domain to the other
@@ -37,9 +35,3 @@ module _ {V : Type 0} (g : Graph V) where
   abbrev pub Passes : V → List ℕ → List V → Type 0
   Passes k [] ds = ds ≡ []
   Passes k (r ∷ rs) ds = (m : V) × (rest : List V) × g.Steps k r m × Passes m rs rest × (ds ≡ k ∷ rest)
-
-  -- the derivation reaches the end of that name
-  abbrev pub EndsAs : V → List ℕ → EndName V → Type 0
-  EndsAs k [] e = g.Open k × (e ≡ by_domain k)
-  EndsAs k (r ∷ rs) e =
-      (g.Stops k r × (rs ≡ []) × (e ≡ by_rule k r)) ⊎ ((m : V) × g.Steps k r m × EndsAs m rs e)

@@ -1,4 +1,8 @@
+pub mod Asking
 pub mod Graph
+pub mod Kept
 pub mod Order
 pub mod Report
-pub mod Told
+pub mod Rules
+pub mod Turns
+pub mod Ways

@@ -1,44 +1,58 @@
 //! Laws of reports, loops and needed domains, each the contract of a function that does nothing.
-
 ghost use Rattle.std.specs.Prelude.{◌≡◌, ◌≤◌, ◌+◌, ℕ, List, length, Contains};
-ghost use Rattle.ddds_walk.specs.Graph.{Found, Leads};
-ghost use Rattle.ddds_walk.specs.Report.{IsReport, IsLeastLoop, HasNoLoop, IsNeeded, AreNeeded};
-ghost use Rattle.ddds_walk.specs.Told.{Told, graph_of};
+ghost use Rattle.naptr_data.specs.Zones.{Labels, Zone, rules_and_aliases};
+ghost use Rattle.ddds_walk.specs.Graph.{graph_of, Leads};
+ghost use Rattle.ddds_walk.specs.Rules.{Client};
+ghost use Rattle.ddds_walk.specs.Report.{IsReport, IsLeastLoop, HasNoLoop, IsNeeded, AreSomeNeeded, AreNeeded};
+ghost use Rattle.ddds_walk.specs.declared.lists.End.{End};
+
+use naptr_data::one_offer;
+use subst_expr::laws::one_output;
 
 /// There is at most one report.
-pub fn one_report<D, T>()
-    ensures { (f : Told D T) (key : D) (xs ys : List (Found D)) → IsReport (graph_of f) key xs →
-        IsReport (graph_of f) key ys → xs ≡ ys }
-{}
+pub fn one_report()
+    ensures { (c : Client) (zones : List Zone) (key : Labels) (xs ys : List End) → IsReport c zones key xs →
+        IsReport c zones key ys → xs ≡ ys }
+{
+    one_offer();
+    one_output();
+}
 
 /// There is at most one least loop: its ranks, its domains and the domain that it comes back to.
-pub fn one_loop<D, T>()
-    ensures { (f : Told D T) (key : D) (ls ms : List ℕ) (ds es : List D) (d e : D) →
-        IsLeastLoop (graph_of f) key ls ds d → IsLeastLoop (graph_of f) key ms es e →
+pub fn one_loop()
+    ensures { (c : Client) (zones : List Zone) (key : Labels) (ls ms : List ℕ) (ds es : List Labels) (d e : Labels) →
+        IsLeastLoop (graph_of c zones) key ls ds d → IsLeastLoop (graph_of c zones) key ms es e →
         (ls ≡ ms) × (ds ≡ es) × (d ≡ e) }
-{}
+{
+    one_offer();
+    one_output();
+}
 
 /// Where there is no loop, the needed domains are all to which some derivation leads.
-pub fn all_needed<D, T>()
-    ensures { (f : Told D T) (key : D) (rs : List ℕ) (d : D) → HasNoLoop (graph_of f) key →
-        Leads (graph_of f) key rs d → IsNeeded (graph_of f) key d }
+pub fn all_needed()
+    ensures { (c : Client) (zones : List Zone) (key : Labels) (rs : List ℕ) (d : Labels) → HasNoLoop (graph_of c zones) key →
+        Leads (graph_of c zones) key rs d → IsNeeded (graph_of c zones) key d }
 {}
 
 /// The domains on the least loop are needed, though no derivation round it is.
-pub fn loop_needed<D, T>()
-    ensures { (f : Told D T) (key : D) (ls : List ℕ) (ds : List D) (d x : D) →
-        IsLeastLoop (graph_of f) key ls ds d → Contains ds x → IsNeeded (graph_of f) key x }
-{}
+pub fn loop_needed()
+    ensures { (c : Client) (zones : List Zone) (key : Labels) (ls : List ℕ) (ds : List Labels) (d x : Labels) →
+        IsLeastLoop (graph_of c zones) key ls ds d → Contains ds x → IsNeeded (graph_of c zones) key x }
+{
+    one_offer();
+    one_output();
+}
 
 /// The number of needed domains does not depend on how they are listed.
-pub fn needed_count<D, T>()
-    ensures { (f : Told D T) (key : D) (ds es : List D) → AreNeeded (graph_of f) key ds →
-        AreNeeded (graph_of f) key es → length ds ≡ length es }
+pub fn needed_count()
+    ensures { (c : Client) (zones : List Zone) (key : Labels) (ds es : List Labels) → AreNeeded (graph_of c zones) key ds →
+        AreNeeded (graph_of c zones) key es → length ds ≡ length es }
 {}
 
-/// Where each step leads to one of the targets, at most one domain more than these is needed: the key.
-pub fn needed_bound<D, T>()
-    ensures { (f : Told D T) (key : D) (targets ds : List D) →
-        ((d m : D) (r : ℕ) → (graph_of f).Steps d r m → Contains targets m) →
-        AreNeeded (graph_of f) key ds → length ds ≤ length targets + 1 }
-{}
+/// At most one domain more is needed than the zones hold rules and aliases.
+pub fn needed_bound()
+    ensures { (c : Client) (zones : List Zone) (key : Labels) (ds : List Labels) →
+        AreSomeNeeded (graph_of c zones) key ds → length ds ≤ rules_and_aliases zones + 1 }
+{
+    one_output();
+}

@@ -1,11 +1,8 @@
 -- Facts on lists: two ways to cut one, elements, and lists without repeats.
-use Rattle.std.proofs.Common.{◌≡◌, ℕ, zero, suc, ◌+◌, ◌<◌, ◌≤◌, ◌⊎◌, List, [], ◌∷◌, ◌++◌, length, map, take, drop, get_or, Option, Some, None, filter_map, refl, sym, ◌∙◌, ap, subst, inl, inr, arith}
-use Rattle.std.specs.Prelude.{Contains, slice_get, OnOk, Result, Ok, Err}
-use Rattle.std.specs.List.{cons_option}
-use Rattle.std.specs.Option.{option_to_list}
-use Rattle.std.proofs.lemmas.List.{take_more}
-use Rattle.std.proofs.lemmas.List.Elements.{Contains-append_left, Contains-append_right, Contains-append_cases, Contains-push, Contains-push_cases, filter_map-append}
-use Rattle.ddds_walk.specs.Report.{AreDistinct}
+use Rattle.std.proofs.Common.{◌≡◌, ℕ, zero, suc, ◌<◌, ◌⊎◌, List, [], ◌∷◌, ◌++◌, map, Some, refl, sym, ap, subst, inl, inr, arith}
+use Rattle.std.specs.Prelude.{Contains, slice_get}
+use Rattle.std.proofs.lemmas.List.Elements.{Contains-append_left, Contains-append_right, Contains-append_cases, Contains-push, Contains-push_cases}
+use Rattle.naptr_data.specs.Sources.{AreDistinct}
 
 module _ {X : Type 0} where
   -- two ways to cut one list: one of the first parts begins with the other
@@ -120,70 +117,14 @@ has_unmap {X} {Y} f (z ∷ xs) y h = by (λ k. has_unmap f xs y k) (has_cons (ma
     by j (inl e) = (z, has_head xs z, e)
     by j (inr k) = more (j k)
 
--- what a `for` over a list has kept of it by h, one element further
-pub filter_map_more : {X Y : Type 0} (h : X → Option Y) (xs : List X) (i : ℕ) (x : X)
-    → i < length xs → x ≡ get_or xs i x
-    → filter_map h (take (i + 1) xs) ≡ filter_map h (take i xs) ++ option_to_list (h x)
-filter_map_more {X} {Y} h xs i x l e =
-    ap (filter_map h) (take_more xs i x l ∙ ap (λ v. take i xs ++ v ∷ []) (sym e))
-    ∙ filter_map-append h (take i xs) (x ∷ []) ∙ ap (λ v. filter_map h (take i xs) ++ v) (one (h x))
-  where
-    one : (o : Option Y) → cons_option o [] ≡ option_to_list o
-    one None = refl
-    one (Some y) = refl
-
--- an element at the front of what is left stands at that place, and the rest is left behind it
-pub drop_here : {X : Type 0} (n : ℕ) (xs ys : List X) (x : X) → drop n xs ≡ x ∷ ys → slice_get xs n ≡ Some x
-drop_here zero [] ys x e = cc
-drop_here zero (z ∷ xs) ys x e = let f : z ≡ x = cc in ap Some f
-drop_here (suc n) [] ys x e = cc
-drop_here (suc n) (z ∷ xs) ys x e = drop_here n xs ys x e
-
-pub drop_next : {X : Type 0} (n : ℕ) (xs ys : List X) (x : X) → drop n xs ≡ x ∷ ys → drop (suc n) xs ≡ ys
-drop_next zero [] ys x e = cc
-drop_next zero (z ∷ xs) ys x e = cc
-drop_next (suc n) [] ys x e = cc
-drop_next (suc n) (z ∷ xs) ys x e = drop_next n xs ys x e
-
--- where nothing is left no further place has an element
-pub drop_none : {X : Type 0} (n m : ℕ) (xs : List X) (x : X) → drop n xs ≡ [] → n ≤ m → slice_get xs m ≡ Some x → ⊥
-drop_none n m [] x e l s = cc
-drop_none zero m (z ∷ xs) x e l s = cc
-drop_none (suc n) zero (z ∷ xs) x e l s = omega arith
-drop_none (suc n) (suc m) (z ∷ xs) x e l s = drop_none n m xs x e (omega arith) s
-
--- the front of a list has the elements that the list has
+-- an element of the images is the image of the element at its place
 pub get_map : {X Y : Type 0} (h : X → Y) (xs : List X) (n : ℕ) (y : Y) → slice_get (map h xs) n ≡ Some y
     → (x : X) × (slice_get xs n ≡ Some x) × (h x ≡ y)
 get_map h [] n y e = cc
 get_map h (x ∷ xs) zero y e = (x, refl, (cc))
 get_map h (x ∷ xs) (suc n) y e = get_map h xs n y e
 
--- a list in which nothing is none has the values of its elements
-pub all_some : {X : Type 0} (xs : List (Option X)) → (Contains xs None → ⊥) → map Some (filter_map (λ v. v) xs) ≡ xs
-all_some [] h = refl
-all_some (None ∷ xs) h = absurd (h (has_head xs None))
-all_some (Some x ∷ xs) h = ap (λ v. Some x ∷ v) (all_some xs (λ k. h (has_tail xs (Some x) None k)))
-
--- the step of a `for` that keeps what h gives
-pub kept_more : {X Y : Type 0} (h : X → Option Y) (xs : List X) (i : ℕ) (x : X) (old new : List Y) (o : Option Y)
-    → i < length xs → x ≡ get_or xs i x → h x ≡ o → old ≡ filter_map h (take i xs) → new ≡ old ++ option_to_list o
-    → new ≡ filter_map h (take (i + 1) xs)
-kept_more h xs i x old new o l e j a b =
-    b ∙ ap (λ v. v ++ option_to_list o) a ∙ ap (λ v. filter_map h (take i xs) ++ option_to_list v) (sym j)
-    ∙ sym (filter_map_more h xs i x l e)
-
 pub get_of_map : {X Y : Type 0} (h : X → Y) (xs : List X) (n : ℕ) (x : X) → slice_get xs n ≡ Some x → slice_get (map h xs) n ≡ Some (h x)
 get_of_map h [] n x e = cc
 get_of_map h (y ∷ xs) zero x e = let f : y ≡ x = cc in ap (λ v. Some (h v)) f
 get_of_map h (y ∷ xs) (suc n) x e = get_of_map h xs n x e
-
--- what h gives of a list is what is there of its images
-pub filter_map_over : {X Y : Type 0} (h : X → Option Y) (xs : List X) → filter_map h xs ≡ filter_map (λ v. v) (map h xs)
-filter_map_over h [] = refl
-filter_map_over h (x ∷ xs) = ap (cons_option (h x)) (filter_map_over h xs)
-
--- a fact that follows, where the answer is Ok
-pub on_ok : {A E P Q : Type 0} (r : Result A E) → (P → Q) → OnOk r P → OnOk r Q
-on_ok (Ok x) f p = f p
-on_ok (Err e) f p = p

@@ -1,0 +1,261 @@
+-- Turns of a walk that ask: what each leaves, and the whole walk from its turns.
+use Rattle.std.proofs.Common.{◌≡◌, ◌↔◌, ℕ, zero, suc, ◌+◌, ◌<◌, ◌≤◌, ◌⊎◌, List, [], ◌∷◌, ◌++◌, length, drop, refl, sym, ◌∙◌, ap, subst, inl, inr, arith}
+use Rattle.std.specs.Prelude.{Contains, Some, slice_get, Result, Ok, Err}
+use Rattle.std.specs.List.{sum_by}
+use Rattle.std.proofs.lemmas.List.{length-append}
+use Rattle.std.proofs.lemmas.List.Sums.{sum_by-append}
+use Rattle.std.proofs.lemmas.List.Elements.{Contains-push_cases}
+use Rattle.std.proofs.lemmas.Option.{slice_get_within}
+use Rattle.std.proofs.lemmas.Str.Ascii.{lowercase-lowercase}
+use Rattle.enum_base.specs.Folding.{folded}
+use Rattle.dns_name.specs.Name.{folded_labels}
+use Rattle.naptr_data.specs.Sources.{AreDistinct, Offers}
+use Rattle.naptr_data.specs.Zones.{Labels, Zone, IsOffer}
+use Rattle.naptr_data.specs.declared.offer.Offer.{Offer}
+use Rattle.naptr_data.specs.declared.offer.Offer.TheVariants as offer
+use Rattle.naptr_data.specs.declared.rule.Naptr.{Naptr}
+use Rattle.service_field.specs.declared.kind.Kind.{Kind}
+use Rattle.service_field.specs.declared.kind.Kind.TheVariants as kind
+use Rattle.ddds_walk.specs.Asking.{more, NeedsMore}
+use Rattle.ddds_walk.specs.Graph.{graph_of}
+use Rattle.ddds_walk.specs.Kept.{HasKept}
+use Rattle.ddds_walk.specs.Report.{IsNeeded, AreSomeNeeded}
+use Rattle.ddds_walk.specs.Rules.{Client, GivesAs, IsEdgeOf}
+use Rattle.ddds_walk.specs.Turns.{Tally, IsSound, AreFolded, left_at, left_in, IsAt, HasMoved, Serves, Counts, HasTurned, HasAsked, Opens}
+use Rattle.ddds_walk.specs.Ways.{path_of, domains_of}
+use Rattle.ddds_walk.specs.declared.edge.Edge.{Edge}
+use Rattle.ddds_walk.specs.declared.edge.Edge.TheVariants.{Step}
+use Rattle.ddds_walk.specs.declared.fault.WalkFault.{WalkFault}
+use Rattle.ddds_walk.specs.declared.fault.WalkFault.TheVariants.{Limit, Trouble, Memory}
+use Rattle.ddds_walk.specs.declared.frame.Frame.{Frame}
+use Rattle.ddds_walk.specs.declared.turn.Turn.{Turn}
+use Rattle.ddds_walk.specs.declared.turn.Turn.TheVariants.{On}
+use Rattle.ddds_walk.specs.declared.turn.Walk.{Walk}
+use Rattle.ddds_walk.proofs.Elements.{distinct_push}
+use Rattle.ddds_walk.proofs.Sound.{past_push}
+use Rattle.ddds_walk.proofs.StateMore.{state_needed, state_enter}
+
+-- a folded name is folded again to itself
+folded_twice : (bytes : List ℕ) → folded (folded bytes) ≡ folded bytes
+folded_twice [] = refl
+folded_twice (b ∷ bytes) = let h : folded (folded bytes) ≡ folded bytes = folded_twice bytes in
+    ap (λ v. v ∷ folded (folded bytes)) (lowercase-lowercase b) ∙ ap (λ v. folded (b ∷ []) ++ v) h
+
+pub folds_twice : (labels : Labels) → folded_labels (folded_labels labels) ≡ folded_labels labels
+folds_twice [] = refl
+folds_twice (l ∷ labels) = ap (λ v. v ∷ folded_labels (folded_labels labels)) (folded_twice l) ∙ ap (λ v. folded l ∷ v) (folds_twice labels)
+
+same_folds : (d x : Labels) → d ≡ folded_labels x → folded_labels d ≡ d
+same_folds d x e = ap folded_labels e ∙ folds_twice x ∙ sym e
+
+gift_folds : (k : Kind) (c : Client) (rule : Naptr) (d : Labels) → GivesAs k c rule (Step d) → folded_labels d ≡ d
+gift_folds kind.Step c rule d (s, inl (r, e)) = same_folds d rule.replacement e
+gift_folds kind.Step c rule d (s, inr (b, r, (bytes, labels, o, n, e))) = same_folds d labels e
+gift_folds kind.TerminalUri c rule d g = absurd g
+gift_folds (kind.TerminalName l) c rule d g = absurd g
+gift_folds kind.Unknown c rule d g = absurd g
+
+edge_folds : (c : Client) (o : Offer) (r : ℕ) (d : Labels) → IsEdgeOf c o r (Step d) → folded_labels d ≡ d
+edge_folds c (offer.Rules rules) r d (chosen, rule, f, s, g) = gift_folds (c.kind rule.flags) c rule d g
+edge_folds c (offer.Alias target) r d (z, e) = let f : d ≡ folded_labels target = cc in same_folds d target f
+edge_folds c offer.Unserved r d e = absurd e
+
+pub edges_fold : (c : Client) (o : Offer) (edges : List Edge) → ((r : ℕ) (e : Edge) → (slice_get edges r ≡ Some e) ↔ IsEdgeOf c o r e) → AreFolded edges
+edges_fold c o edges told r d e = edge_folds c o r d ((told r (Step d)).0 e)
+
+pub key_folds : (key : Labels) → AreFolded (Step (folded_labels key) ∷ [])
+key_folds key zero d e = let f : d ≡ folded_labels key = cc in same_folds d key f
+key_folds key (suc r) d e = cc
+
+module _ (c : Client) (limit : ℕ) (t : Tally) (Failed : Type 0) (w w' : Walk) where
+  -- a turn that asks nobody
+  pub turned_moved : (turn : Turn) → IsSound limit w → HasMoved limit w w' turn → HasTurned c limit t t Failed w w' (Ok turn)
+  turned_moved turn sound m = record {
+    serves = record { zones = refl; room = refl; lent = refl; later = omega arith; trouble = λ e. cc };
+    counts = record {
+      once = subst (λ v. AreDistinct v) (sym m.asked) sound.once;
+      few = subst (λ v. length v ≤ limit) (sym m.asked) sound.few;
+      asks = λ a e. subst (λ v. t.asks ≡ more (length v) a) (sym m.asked) e;
+      kept = λ x k f h. subst (λ v. HasKept t.room k f v t.kept t.fetched) (sym m.asked) h;
+      met = λ n e. cc;
+    };
+    sound = m.sound;
+    falls = λ e. m.falls (turn_is e);
+    told = λ zones key is s. (some zones key s, m.says c zones key s, λ n e. cc);
+  }
+    where
+      turn_is : ◌≡◌ {A = Result Turn WalkFault} (Ok turn) (Ok On) → turn ≡ On
+      turn_is e = cc
+
+      some : (zones : List Zone) (key : Labels) → IsAt c zones key w → AreSomeNeeded (graph_of c zones) key w'.asked
+      some zones key s = subst (λ v. AreSomeNeeded (graph_of c zones) key v) (sym m.asked) (record { once = sound.once; only = s.needed })
+
+  -- a turn that asks nobody, for which memory is wanting
+  pub turned_nothing : IsSound limit w → w'.asked ≡ w.asked → HasTurned c limit t t Failed w w' (Err Memory)
+  turned_nothing sound same = record {
+    serves = record { zones = refl; room = refl; lent = refl; later = omega arith; trouble = λ e. cc };
+    counts = record {
+      once = subst (λ v. AreDistinct v) (sym same) sound.once;
+      few = subst (λ v. length v ≤ limit) (sym same) sound.few;
+      asks = λ a e. subst (λ v. t.asks ≡ more (length v) a) (sym same) e;
+      kept = λ x k f h. absurd x;
+      met = λ n e. cc;
+    };
+    sound = tt;
+    falls = λ e. cc;
+    told = λ zones key is s. (subst (λ v. AreSomeNeeded (graph_of c zones) key v) (sym same) (record { once = sound.once; only = s.needed }), tt, λ n e. cc);
+  }
+
+-- counts that stand for one result stand for each that is refused in its place
+memory_counts : {A B : Type 0} (limit : ℕ) (t u : Tally) (asked asked' : List Labels) (result : Result A WalkFault)
+    → Counts limit t u asked asked' result → Counts {A = B} limit t u asked asked' (Err Memory)
+memory_counts limit t u asked asked' result h = record {
+  once = h.once;
+  few = h.few;
+  asks = h.asks;
+  kept = λ x k f i. absurd x;
+  met = λ n e. cc;
+}
+
+refused_counts : {A B : Type 0} (limit : ℕ) (t u : Tally) (asked asked' : List Labels) (e : WalkFault)
+    → Counts {A = A} limit t u asked asked' (Err e) → Counts {A = B} limit t u asked asked' (Err e)
+refused_counts {A} {B} limit t u asked asked' (Limit n) h = record { once = h.once; few = h.few; asks = h.asks; kept = h.kept; met = λ m e. h.met m (limits m e) }
+  where
+    limits : (m : ℕ) → ◌≡◌ {A = Result B WalkFault} (Err (Limit n)) (Err (Limit m)) → ◌≡◌ {A = Result A WalkFault} (Err (Limit n)) (Err (Limit m))
+    limits m e = let f : Limit n ≡ Limit m = cc in ap Err f
+refused_counts limit t u asked asked' Trouble h = record { once = h.once; few = h.few; asks = h.asks; kept = λ x k f i. absurd x; met = λ n e. cc }
+refused_counts limit t u asked asked' Memory h = record { once = h.once; few = h.few; asks = h.asks; kept = λ x k f i. absurd x; met = λ n e. cc }
+
+module _ (c : Client) (limit : ℕ) (t u : Tally) (Failed : Type 0) (w w' : Walk) (asked : List Labels) (next : Labels)
+    (sound : IsSound limit w) (here : slice_get w.top.edges w.top.rank ≡ Some (Step next))
+    (new : ¬ Contains w.asked next) (away : ¬ (Contains (domains_of w.below) (Some next) ⊎ (w.top.domain ≡ Some next))) where
+  -- what was asked is needed, with the domain of the edge or without
+  some_needed : (w.asked ≡ asked) ⊎ (asked ≡ w.asked ++ next ∷ []) → w'.asked ≡ asked → AreDistinct asked
+      → (zones : List Zone) (key : Labels) → IsAt c zones key w → AreSomeNeeded (graph_of c zones) key w'.asked
+  some_needed cases same once zones key s = subst (λ v. AreSomeNeeded (graph_of c zones) key v) (sym same) (record { once = once; only = λ d h. only cases d h })
+    where
+      only : (w.asked ≡ asked) ⊎ (asked ≡ w.asked ++ next ∷ []) → (d : Labels) → Contains asked d → IsNeeded (graph_of c zones) key d
+      only (inl e) d h = s.needed d (subst (λ v. Contains v d) (sym e) h)
+      only (inr e) d h = by (Contains-push_cases w.asked next d (subst (λ v. Contains v d) e h))
+        where
+          by : Contains w.asked d ⊎ (next ≡ d) → IsNeeded (graph_of c zones) key d
+          by (inl k) = s.needed d k
+          by (inr f) = subst (λ v. IsNeeded (graph_of c zones) key v) f (state_needed c zones key w.asked w.ends w.below w.top s next here away)
+
+  turn_cases : (asked ≡ w.asked) ⊎ (asked ≡ w.asked ++ next ∷ []) → (w.asked ≡ asked) ⊎ (asked ≡ w.asked ++ next ∷ [])
+  turn_cases (inl e) = inl (sym e)
+  turn_cases (inr e) = inr e
+
+  refused_serves : (e : WalkFault) → Serves {A = Offer} t u Failed (Err e) → Serves {A = Turn} t u Failed (Err e)
+  refused_serves e s = record { zones = s.zones; room = s.room; lent = s.lent; later = s.later; trouble = λ h. s.trouble (troubles h) }
+    where
+      troubles : ◌≡◌ {A = Result Turn WalkFault} (Err e) (Err Trouble) → ◌≡◌ {A = Result Offer WalkFault} (Err e) (Err Trouble)
+      troubles h = let f : e ≡ Trouble = cc in ap Err f
+
+  -- the source was not asked, or has no answer
+  pub turned_refused : (e : WalkFault) → HasAsked limit t u Failed w.asked asked next (Err e) → w'.asked ≡ asked
+      → HasTurned c limit t u Failed w w' (Err e)
+  turned_refused e a same = record {
+    serves = refused_serves e a.serves;
+    counts = refused_counts limit t u w.asked w'.asked e (subst (λ v. Counts {A = Offer} limit t u w.asked v (Err e)) (sym same) a.counts);
+    sound = tt;
+    falls = λ h. cc;
+    told = λ zones key is s. (some_needed (turn_cases a.cases) same a.counts.once zones key s, tt, λ n h. past zones key s n (limits n h));
+  }
+    where
+      limits : (n : ℕ) → ◌≡◌ {A = Result Turn WalkFault} (Err e) (Err (Limit n)) → ◌≡◌ {A = Result Offer WalkFault} (Err e) (Err (Limit n))
+      limits n h = let f : e ≡ Limit n = cc in ap Err f
+
+      past : (zones : List Zone) (key : Labels) → IsAt c zones key w → (n : ℕ) → ◌≡◌ {A = Result Offer WalkFault} (Err e) (Err (Limit n)) → NeedsMore (graph_of c zones) key limit
+      past zones key s n h =
+          let m = a.counts.met n h in
+          let l : length w.asked ≡ limit = ap length (sym (a.met n h)) ∙ m.1 in (
+            w.asked ++ next ∷ [],
+            record {
+              once = distinct_push w.asked next sound.once new;
+              only = λ d k. by d (Contains-push_cases w.asked next d k);
+            },
+            omega (arith, length-append w.asked (next ∷ [])),
+          )
+        where
+          by : (d : Labels) → Contains w.asked d ⊎ (next ≡ d) → IsNeeded (graph_of c zones) key d
+          by d (inl k) = s.needed d k
+          by d (inr f) = subst (λ v. IsNeeded (graph_of c zones) key v) f (state_needed c zones key w.asked w.ends w.below w.top s next here away)
+
+  memory_serves : {A B : Type 0} (result : Result A WalkFault) → Serves t u Failed result → Serves {A = B} t u Failed (Err Memory)
+  memory_serves result s = record { zones = s.zones; room = s.room; lent = s.lent; later = s.later; trouble = λ h. cc }
+
+  -- the source answered, and then memory was wanting
+  pub turned_memory : (o : Offer) → HasAsked limit t u Failed w.asked asked next (Ok o) → w'.asked ≡ asked
+      → HasTurned c limit t u Failed w w' (Err Memory)
+  turned_memory o a same = record {
+    serves = memory_serves (Ok o) a.serves;
+    counts = memory_counts limit t u w.asked w'.asked (Ok o) (subst (λ v. Counts {A = Offer} limit t u w.asked v (Ok o)) (sym same) a.counts);
+    sound = tt;
+    falls = λ h. cc;
+    told = λ zones key is s. (some_needed (turn_cases a.cases) same a.counts.once zones key s, tt, λ n h. cc);
+  }
+
+  -- the source answered, and the domain was opened
+  pub turned_on : (o : Offer) → HasAsked limit t u Failed w.asked asked next (Ok o)
+      → Opens c next o (record w { asked = asked }) w' → HasTurned c limit t u Failed w w' (Ok On)
+  turned_on o a opens = record {
+    serves = record { zones = a.serves.zones; room = a.serves.room; lent = a.serves.lent; later = a.serves.later; trouble = λ h. cc };
+    counts = record {
+      once = subst (λ v. AreDistinct v) (sym opens.asked) a.counts.once;
+      few = subst (λ v. length v ≤ limit) (sym opens.asked) a.counts.few;
+      asks = λ b h. subst (λ v. u.asks ≡ more (length v) b) (sym opens.asked) (a.counts.asks b h);
+      kept = λ x k f h. subst (λ v. HasKept t.room k f v u.kept u.fetched) (sym opens.asked) (a.counts.kept tt k f h);
+      met = λ n h. cc;
+    };
+    sound = sound_there;
+    falls = λ h. falls;
+    told = λ zones key is s. (some_needed (inr grew) opens.asked a.counts.once zones key s, at zones key is s, λ n h. cc);
+  }
+    where
+      grew : asked ≡ w.asked ++ next ∷ []
+      grew = a.offered.0
+
+      rank_in : w.top.rank < length w.top.edges
+      rank_in = slice_get_within w.top.edges w.top.rank (Step next) here
+
+      top : Frame
+      top = record { domain = Some next; edges = opens.edges; rank = 0 }
+
+      opened : Walk
+      opened = record { asked = asked; ends = w'.ends; below = w.below ++ w.top ∷ []; top = top }
+
+      is : opened ≡ w'
+      is i = record { asked = (sym opens.asked) i; ends = w'.ends; below = (sym opens.below) i; top = (sym opens.top) i }
+
+      sound_opened : IsSound limit opened
+      sound_opened = record {
+        once = a.counts.once;
+        few = a.counts.few;
+        below = past_push w.below w.top sound.below (rank_in, sound.top.1, sound.top.2);
+        top = (omega arith, opens.few, edges_fold c o opens.edges opens.told);
+      }
+
+      sound_there : IsSound limit w'
+      sound_there = subst (λ v. IsSound limit v) is sound_opened
+
+      falls_opened : left_in limit opened < left_in limit w
+      falls_opened =
+          let l : length asked ≡ length (w.asked ++ next ∷ []) = ap length grew in
+          let s : sum_by left_at (w.below ++ w.top ∷ []) ≡ sum_by left_at w.below + sum_by left_at (w.top ∷ []) = sum_by-append left_at w.below (w.top ∷ []) in
+          let o : sum_by left_at (w.top ∷ []) ≡ left_at w.top = omega arith in
+          let f = a.counts.few in
+          let e = opens.few in
+          omega (arith, length-append w.asked (next ∷ []))
+
+      falls : left_in limit w' < left_in limit w
+      falls = subst (λ v. left_in limit v < left_in limit w) is falls_opened
+
+      at : (zones : List Zone) (key : Labels) → t.zones ≡ Some zones → IsAt c zones key w → IsAt c zones key w'
+      at zones key is-told s = subst (λ v. IsAt c zones key v) is
+          (subst (λ v. IsAt c zones key (record opened { asked = v })) (sym grew)
+          (state_enter c zones key w.asked w.ends w.below w.top s next here o opens.edges w'.ends (drop 1 (path_of w.below ++ w.top.rank ∷ []))
+          new away offered opens.told refl opens.ends))
+        where
+          offered : IsOffer zones next o
+          offered = subst (λ v. Offers v next o) is-told a.offered.2

@@ -1,0 +1,155 @@
+-- What holds of a walk over any source, how its rest falls, and the turns that ask nobody.
+use Rattle.std.proofs.Common.{◌≡◌, ℕ, ◌+◌, ◌<◌, ◌≤◌, ◌⊎◌, List, [], ◌∷◌, ◌++◌, length, drop, filter_map, refl, sym, ◌∙◌, ap, subst, inl, inr, arith}
+use Rattle.std.specs.Prelude.{Contains, Option, Some, None, slice_get, get_or}
+use Rattle.std.specs.List.{AllByRecursion, sum_by}
+use Rattle.std.proofs.lemmas.List.Sums.{sum_by-append}
+use Rattle.std.proofs.lemmas.Option.{slice_get_within, slice_get_cases}
+use Rattle.naptr_data.specs.Zones.{Labels, Zone}
+use Rattle.naptr_data.specs.declared.rule.Naptr.{Naptr}
+use Rattle.ddds_walk.specs.Rules.{Client}
+use Rattle.ddds_walk.specs.Turns.{IsSound, IsPast, left_at, left_in, IsAt, IsNextEnd, HasMoved}
+use Rattle.ddds_walk.specs.Ways.{Tells, path_of, domains_of}
+use Rattle.ddds_walk.specs.declared.edge.Edge.{Edge}
+use Rattle.ddds_walk.specs.declared.edge.Edge.TheVariants.{Step, Stop}
+use Rattle.ddds_walk.specs.declared.frame.Frame.{Frame}
+use Rattle.ddds_walk.specs.declared.lists.End.{End}
+use Rattle.ddds_walk.specs.declared.lists.LoopPath.{LoopPath}
+use Rattle.ddds_walk.specs.declared.lists.Outcome.{Outcome}
+use Rattle.ddds_walk.specs.declared.turn.Turn.TheVariants.{On, Done, Back}
+use Rattle.ddds_walk.specs.declared.turn.Walk.{Walk}
+use Rattle.ddds_walk.proofs.State.{state_skip, state_stop}
+use Rattle.ddds_walk.proofs.StateMore.{state_leave, state_end, state_back}
+
+-- what holds of all of a list and of one more
+past_front : (xs ys : List Frame) → AllByRecursion IsPast (xs ++ ys) → AllByRecursion IsPast xs
+past_front [] ys h = tt
+past_front (x ∷ xs) ys h = (h.0, past_front xs ys h.1)
+
+past_last : (xs : List Frame) (f : Frame) → AllByRecursion IsPast (xs ++ f ∷ []) → IsPast f
+past_last [] f h = h.0
+past_last (x ∷ xs) f h = past_last xs f h.1
+
+pub past_push : (xs : List Frame) (f : Frame) → AllByRecursion IsPast xs → IsPast f → AllByRecursion IsPast (xs ++ f ∷ [])
+past_push [] f h p = (p, tt)
+past_push (x ∷ xs) f h p = (h.0, past_push xs f h.1 p)
+
+-- where nothing is told at a place, the list ends there
+get_past : {X : Type 0} (xs : List X) (n : ℕ) → slice_get xs n ≡ None → length xs ≤ n
+get_past {X} xs n e = by (slice_get_cases xs n).1
+  where
+    by : ((x : X) × (n < length xs) × (slice_get xs n ≡ Some x) × (get_or xs n x ≡ x)) ⊎ ((length xs ≤ n) × (slice_get xs n ≡ None))
+        → length xs ≤ n
+    by (inl (x, l, f, h)) = cc
+    by (inr h) = h.0
+
+-- the walk with its topmost frame behind the edge that it stood at, and with these ends
+abbrev pub onward : Walk → List End → Walk
+onward w ends = record w { ends = ends; top = record w.top { rank = w.top.rank + 1 } }
+
+module _ (limit : ℕ) (w : Walk) (sound : IsSound limit w) where
+  pub sound_on : (e : Edge) (ends : List End) → slice_get w.top.edges w.top.rank ≡ Some e → IsSound limit (onward w ends)
+  sound_on e ends h =
+      let l = slice_get_within w.top.edges w.top.rank e h in
+      record { once = sound.once; few = sound.few; below = sound.below; top = (omega (arith, l), sound.top.1, sound.top.2) }
+
+  pub falls_on : (e : Edge) (ends : List End) → slice_get w.top.edges w.top.rank ≡ Some e
+      → left_in limit (onward w ends) < left_in limit w
+  falls_on e ends h = let l = slice_get_within w.top.edges w.top.rank e h in omega (arith, l)
+
+  pub moved_skip : (m : Labels) → slice_get w.top.edges w.top.rank ≡ Some (Step m) → Contains w.asked m
+      → ¬ (Contains (domains_of w.below) (Some m) ⊎ (w.top.domain ≡ Some m)) → HasMoved limit w (onward w w.ends) On
+  moved_skip m h k away = record {
+    asked = refl;
+    sound = sound_on (Step m) w.ends h;
+    falls = λ _. falls_on (Step m) w.ends h;
+    says = λ c zones key s. state_skip c zones key w.asked w.ends w.below w.top s m h k away;
+  }
+
+  pub moved_stop : (d : Labels) (rule : Naptr) (o : Outcome) (ranks : List ℕ) → w.top.domain ≡ Some d
+      → slice_get w.top.edges w.top.rank ≡ Some (Stop rule o) → ranks ≡ drop 1 (path_of w.below ++ w.top.rank ∷ [])
+      → HasMoved limit w (onward w (w.ends ++ (record { ranks = ranks; domain = d; rule = Some rule; outcome = o }) ∷ [])) On
+  moved_stop d rule o ranks at h r = record {
+    asked = refl;
+    sound = sound_on (Stop rule o) (w.ends ++ (record { ranks = ranks; domain = d; rule = Some rule; outcome = o }) ∷ []) h;
+    falls = λ _. falls_on (Stop rule o) (w.ends ++ (record { ranks = ranks; domain = d; rule = Some rule; outcome = o }) ∷ []) h;
+    says = λ c zones key s. state_stop c zones key w.asked w.ends w.below w.top s d rule o ranks at h r;
+  }
+
+  -- at the root no edge is that of a terminal rule
+  pub moved_root : (rule : Naptr) (o : Outcome) → w.top.domain ≡ None → slice_get w.top.edges w.top.rank ≡ Some (Stop rule o)
+      → HasMoved limit w (onward w w.ends) On
+  moved_root rule o at h = record {
+    asked = refl;
+    sound = sound_on (Stop rule o) w.ends h;
+    falls = λ _. falls_on (Stop rule o) w.ends h;
+    says = λ c zones key s. absurd (never c zones key s);
+  }
+    where
+      never : (c : Client) (zones : List Zone) (key : Labels) → IsAt c zones key w → ⊥
+      never c zones key s =
+          let t = subst (λ v. Tells c zones (key ∷ []) v w.top.edges) at s.at_top.tells in
+          let e : Stop rule o ≡ Step _ = ((t w.top.rank (Stop rule o)).0 h).2 in
+          cc
+
+  -- the rank of a lower frame can go on
+  pub low_rank : (lower : List Frame) (f : Frame) → w.below ≡ lower ++ f ∷ [] → f.rank < 65_535
+  low_rank lower f is =
+      let past : IsPast f = past_last lower f (subst (λ v. AllByRecursion IsPast v) is sound.below) in
+      omega (arith, past.0, past.1)
+
+  pub moved_leave : (lower : List Frame) (f : Frame) → w.below ≡ lower ++ f ∷ [] → slice_get w.top.edges w.top.rank ≡ None
+      → HasMoved limit w (record w { below = lower; top = record f { rank = f.rank + 1 } }) On
+  moved_leave lower f is none = record {
+    asked = refl;
+    sound = record { once = sound.once; few = sound.few; below = past_front lower (f ∷ []) all; top = (omega (arith, past.0), past.1, past.2) };
+    falls = λ _. falls;
+    says = λ c zones key s. state_leave c zones key w.asked w.ends w.below w.top s lower f is none;
+  }
+    where
+      all : AllByRecursion IsPast (lower ++ f ∷ [])
+      all = subst (λ v. AllByRecursion IsPast v) is sound.below
+
+      past : IsPast f
+      past = past_last lower f all
+
+      falls : left_in limit (record w { below = lower; top = record f { rank = f.rank + 1 } }) < left_in limit w
+      falls =
+          let a : sum_by left_at w.below ≡ sum_by left_at lower + sum_by left_at (f ∷ []) = ap (sum_by left_at) is ∙ sum_by-append left_at lower (f ∷ []) in
+          let b : sum_by left_at (f ∷ []) ≡ left_at f = omega arith in
+          let l = past.0 in
+          omega arith
+
+  pub moved_done : w.below ≡ [] → slice_get w.top.edges w.top.rank ≡ None → HasMoved limit w w Done
+  moved_done is none = record {
+    asked = refl;
+    sound = sound;
+    falls = λ e. cc;
+    says = λ c zones key s. let (a, all) = state_end c zones key w.asked w.ends w.below w.top s is none in
+        (a, record { some = record { once = sound.once; only = s.needed }; all = all });
+  }
+
+  pub moved_back : (m : Labels) (path : LoopPath) → slice_get w.top.edges w.top.rank ≡ Some (Step m)
+      → path.ranks ≡ drop 1 (path_of w.below ++ w.top.rank ∷ [])
+      → path.domains ≡ filter_map (λ (d : Option Labels). d) (domains_of w.below ++ w.top.domain ∷ []) ++ m ∷ []
+      → Contains (domains_of w.below) (Some m) ⊎ (w.top.domain ≡ Some m) → HasMoved limit w w (Back path)
+  moved_back m path h r d on = record {
+    asked = refl;
+    sound = sound;
+    falls = λ e. cc;
+    says = λ c zones key s. let (a, all) = state_back c zones key w.asked w.ends w.below w.top s m h path r d on in
+        (a, record { some = record { once = sound.once; only = s.needed }; all = all });
+  }
+
+  -- the root has no terminal rule, and any other frame has the end of its own
+  pub moved_none : (o : Option End) → o ≡ None → IsNextEnd w o
+      → (rule : Naptr) × (outcome : Outcome) × (slice_get w.top.edges w.top.rank ≡ Some (Stop rule outcome))
+      → HasMoved limit w (onward w w.ends) On
+  moved_none o is h (rule, outcome, e) = moved_root rule outcome (subst (λ v. IsNextEnd w v) is h rule outcome e) e
+
+  pub moved_some : (o : Option End) (e : End) → o ≡ Some e → IsNextEnd w o → HasMoved limit w (onward w (w.ends ++ e ∷ [])) On
+  moved_some o e is h = by (subst (λ v. IsNextEnd w v) is h)
+    where
+      by : IsNextEnd w (Some e) → HasMoved limit w (onward w (w.ends ++ e ∷ [])) On
+      by (d, rule, outcome, at, edge, f) =
+          subst (λ v. HasMoved limit w (onward w (w.ends ++ v ∷ [])) On) (sym f)
+          (moved_stop d rule outcome (drop 1 (path_of w.below ++ w.top.rank ∷ [])) at edge refl)

@@ -1,0 +1,176 @@
+-- The state of a walk over told zones, and how each turn changes it.
+use Rattle.std.proofs.Common.{◌≡◌, ℕ, zero, suc, ◌+◌, ◌≤◌, ◌⊎◌, List, [], ◌∷◌, ◌++◌, drop, map, filter_map, refl, sym, ◌∙◌, ap, subst, inl, inr, arith}
+use Rattle.std.proofs.lemmas.List.{map-append}
+use Rattle.std.specs.Prelude.{Contains, Option, Some, None, slice_get}
+use Rattle.std.proofs.lemmas.List.Elements.{Contains-append_left, Contains-push, Contains-push_cases}
+use Rattle.naptr_data.specs.Zones.{Labels, Zone}
+use Rattle.naptr_data.specs.declared.rule.Naptr.{Naptr}
+use Rattle.ddds_walk.specs.Graph.{Graph, graph_of, Leads}
+use Rattle.ddds_walk.specs.Report.{IsEnd}
+use Rattle.ddds_walk.specs.Rules.{Client, IsEdge}
+use Rattle.ddds_walk.specs.Ways.{by_rule, Walked, IsGraph, RootedSteps, tree_of, Tells, path_of, domains_of, IsFrame, last_rank, found_of, IsState}
+use Rattle.ddds_walk.specs.declared.edge.Edge.{Edge}
+use Rattle.ddds_walk.specs.declared.edge.Edge.TheVariants.{Step, Stop}
+use Rattle.ddds_walk.specs.declared.frame.Frame.{Frame}
+use Rattle.ddds_walk.specs.declared.lists.End.{End}
+use Rattle.ddds_walk.specs.declared.lists.Outcome.{Outcome}
+use Rattle.ddds_walk.proofs.Elements.{has_same}
+use Rattle.ddds_walk.proofs.Graphs.{leads_by}
+use Rattle.ddds_walk.proofs.Steps.{as_found, skip, stop}
+use Rattle.ddds_walk.proofs.Rooted.{somes, leads_in}
+use Rattle.ddds_walk.proofs.Reporting.{tree_is}
+
+-- the edge that is told at the cursor is one of the graph
+pub edge_steps : (c : Client) (zones : List Zone) (keys : List Labels) (domain : Option Labels) (edges : List Edge) (r : ℕ) (m : Labels)
+    → Tells c zones keys domain edges → slice_get edges r ≡ Some (Step m)
+    → RootedSteps (graph_of c zones) keys domain r (Some m)
+edge_steps c zones keys None edges r m t e =
+    let (k, s, i) = (t r (Step m)).0 e in
+    let j : k ≡ m = cc in
+    subst (λ v. slice_get keys r ≡ Some v) j s
+edge_steps c zones keys (Some d) edges r m t e = (t r (Step m)).0 e
+
+-- where no edge is told at the cursor, none is of that rank or a greater one
+none_behind : {X : Type 0} (n m : ℕ) (xs : List X) (x : X) → slice_get xs n ≡ None → n ≤ m → slice_get xs m ≡ Some x → ⊥
+none_behind n m [] x e l s = cc
+none_behind zero m (z ∷ xs) x e l s = cc
+none_behind (suc n) zero (z ∷ xs) x e l s = omega arith
+none_behind (suc n) (suc m) (z ∷ xs) x e l s = none_behind n m xs x e (omega arith) s
+
+pub no_steps : (c : Client) (zones : List Zone) (keys : List Labels) (domain : Option Labels) (edges : List Edge) (r : ℕ)
+    → Tells c zones keys domain edges → slice_get edges r ≡ None
+    → (s : ℕ) (m : Option Labels) → r ≤ s → (tree_of c zones keys).Steps domain s m → ⊥
+no_steps c zones keys None edges r t e s None l x = x
+no_steps c zones keys None edges r t e s (Some m) l x = none_behind r s edges (Step m) e l ((t s (Step m)).1 (m, x, refl))
+no_steps c zones keys (Some d) edges r t e s None l x = x
+no_steps c zones keys (Some d) edges r t e s (Some m) l x = none_behind r s edges (Step m) e l ((t s (Step m)).1 x)
+
+pub no_stops : (c : Client) (zones : List Zone) (keys : List Labels) (domain : Option Labels) (edges : List Edge) (r : ℕ)
+    → Tells c zones keys domain edges → slice_get edges r ≡ None
+    → (s : ℕ) → r ≤ s → (tree_of c zones keys).Stops domain s → ⊥
+no_stops c zones keys None edges r t e s l x = x
+no_stops c zones keys (Some d) edges r t e s l (rule, o, x) = none_behind r s edges (Stop rule o) e l ((t s (Stop rule o)).1 x)
+
+-- the last rank of a derivation that goes on by a rank
+last_push : (rs : List ℕ) (r : ℕ) → last_rank (rs ++ r ∷ []) ≡ r
+last_push [] r = refl
+last_push (x ∷ []) r = refl
+last_push (x ∷ y ∷ rs) r = last_push (y ∷ rs) r
+
+-- what is there of options
+pub some_of : (es : List Labels) → filter_map (λ (d : Option Labels). d) (somes es) ≡ es
+some_of [] = refl
+some_of (e ∷ es) = ap (λ v. e ∷ v) (some_of es)
+
+module _ (c : Client) (zones : List Zone) (key : Labels) where
+  g : Graph Labels
+  g = graph_of c zones
+
+  -- a derivation from the root to a domain begins with the rank of the key
+  pub from_root : (rs : List ℕ) (m : Labels) → Leads (tree_of c zones (key ∷ [])) None rs (Some m)
+      → (zero ∷ drop 1 rs ≡ rs) × Leads (graph_of c zones) key (drop 1 rs) m
+  from_root rs m l = by (leads_in (graph_of c zones) key rs m l)
+    where
+      by : (qs : List ℕ) × (rs ≡ zero ∷ qs) × Leads (graph_of c zones) key qs m
+          → (zero ∷ drop 1 rs ≡ rs) × Leads (graph_of c zones) key (drop 1 rs) m
+      by (qs, e, h) =
+          let d : drop 1 rs ≡ qs = ap (drop {A = ℕ} 1) e in
+          (ap (λ v. zero ∷ v) d ∙ sym e, leads_by (graph_of c zones) qs (drop 1 rs) key m (sym d) h)
+
+  module _ (asked : List Labels) (ends : List End) (below : List Frame) (top : Frame)
+      (s : IsState c zones key asked ends below top) where
+    laws : IsGraph (tree_of c zones (key ∷ []))
+    laws = tree_is s.offers s.outputs c zones key
+
+    -- a domain on the way is one of those of the frames below, or that of the topmost one
+    pub on_way : (m : Labels) → Contains (domains_of below ++ top.domain ∷ []) (Some m)
+        → Contains (domains_of below) (Some m) ⊎ (top.domain ≡ Some m)
+    on_way m h = Contains-push_cases (domains_of below) top.domain (Some m) h
+
+    pub way_on : (m : Labels) → Contains (domains_of below) (Some m) ⊎ (top.domain ≡ Some m)
+        → Contains (domains_of below ++ top.domain ∷ []) (Some m)
+    way_on m (inl h) = Contains-append_left (domains_of below) (top.domain ∷ []) (Some m) h
+    way_on m (inr e) =
+        has_same (domains_of below ++ top.domain ∷ []) top.domain (Some m) e (Contains-push (domains_of below) top.domain)
+
+    -- the topmost frame goes on behind the edge that it stood at
+    next_frame : IsFrame c zones (key ∷ []) below (record top { rank = top.rank + 1 })
+    next_frame = record {
+      leads = s.at_top.leads;
+      passes = s.at_top.passes;
+      tells = s.at_top.tells;
+      distinct = s.at_top.distinct;
+    }
+
+    add_one : suc top.rank ≡ top.rank + 1
+    add_one = omega arith
+
+    -- the edge leads to a domain that was asked for, and is not on the way
+    pub state_skip : (m : Labels) → slice_get top.edges top.rank ≡ Some (Step m) → Contains asked m
+        → ¬ (Contains (domains_of below) (Some m) ⊎ (top.domain ≡ Some m))
+        → IsState c zones key asked ends below (record top { rank = top.rank + 1 })
+    state_skip m e h away = record {
+      offers = s.offers;
+      outputs = s.outputs;
+      done = s.done;
+      walked = subst (λ v. Walked (tree_of c zones (key ∷ [])) None s.done (map found_of ends) (path_of below) v top.domain) add_one
+          (skip (tree_of c zones (key ∷ [])) laws None s.done (map found_of ends) (path_of below) top.rank top.domain s.walked (Some m)
+          (edge_steps c zones (key ∷ []) top.domain top.edges top.rank m s.at_top.tells e) (finished ((s.met m).0 h)));
+      at_top = next_frame;
+      fronts = s.fronts;
+      ends_are = s.ends_are;
+      met = s.met;
+      needed = s.needed;
+    }
+      where
+        finished : Contains s.done (Some m) ⊎ Contains (domains_of below ++ top.domain ∷ []) (Some m) → Contains s.done (Some m)
+        finished (inl k) = k
+        finished (inr k) = absurd (away (on_way m k))
+
+    -- the edge is that of a terminal rule
+    pub state_stop : (d : Labels) (rule : Naptr) (o : Outcome) (ranks : List ℕ) → top.domain ≡ Some d
+        → slice_get top.edges top.rank ≡ Some (Stop rule o) → ranks ≡ drop 1 (path_of below ++ top.rank ∷ [])
+        → IsState c zones key asked (ends ++ (record { ranks = ranks; domain = d; rule = Some rule; outcome = o }) ∷ []) below
+        (record top { rank = top.rank + 1 })
+    state_stop d rule o ranks at e r-is = record {
+      offers = s.offers;
+      outputs = s.outputs;
+      done = s.done;
+      walked = subst (λ v. Walked (tree_of c zones (key ∷ [])) None s.done (map found_of (ends ++ it ∷ [])) (path_of below) v top.domain) add_one
+          (stop (tree_of c zones (key ∷ [])) laws None s.done (map found_of ends) (path_of below) top.rank top.domain s.walked
+          (map found_of (ends ++ it ∷ [])) stops grown);
+      at_top = next_frame;
+      fronts = s.fronts;
+      ends_are = λ x h. by x (Contains-push_cases ends it x h);
+      met = s.met;
+      needed = s.needed;
+    }
+      where
+        it : End
+        it = record { ranks = ranks; domain = d; rule = Some rule; outcome = o }
+
+        edge : IsEdge c zones d top.rank (Stop rule o)
+        edge = (subst (λ v. Tells c zones (key ∷ []) v top.edges) at s.at_top.tells top.rank (Stop rule o)).0 e
+
+        stops : (tree_of c zones (key ∷ [])).Stops top.domain top.rank
+        stops = subst (λ v. (tree_of c zones (key ∷ [])).Stops v top.rank) (sym at) (rule, o, edge)
+
+        root : (zero ∷ drop 1 (path_of below) ≡ path_of below) × Leads (graph_of c zones) key (drop 1 (path_of below)) d
+        root = from_root (path_of below) d (subst (λ v. Leads (tree_of c zones (key ∷ [])) None (path_of below) v) at s.at_top.leads)
+
+        split : ranks ≡ drop 1 (path_of below) ++ top.rank ∷ []
+        split = r-is ∙ ap (λ v. drop {A = ℕ} 1 (v ++ top.rank ∷ [])) (sym root.0)
+
+        found : found_of it ≡ as_found (path_of below ++ top.rank ∷ []) (by_rule top.domain top.rank)
+        found i = record {
+          ranks = (ap (λ v. zero ∷ v) split ∙ ap (λ v. v ++ top.rank ∷ []) root.0) i;
+          mark = (ap (λ v. by_rule (Some d) (last_rank v)) split ∙ ap (λ v. by_rule (Some d) v) (last_push (drop 1 (path_of below)) top.rank)
+              ∙ ap (λ v. by_rule v top.rank) (sym at)) i;
+        }
+
+        grown : map found_of (ends ++ it ∷ []) ≡ map found_of ends ++ as_found (path_of below ++ top.rank ∷ []) (by_rule top.domain top.rank) ∷ []
+        grown = map-append found_of ends (it ∷ []) ∙ ap (λ v. map found_of ends ++ v ∷ []) found
+
+        by : (x : End) → Contains ends x ⊎ (it ≡ x) → IsEnd c zones key x
+        by x (inl h) = s.ends_are x h
+        by x (inr f) = subst (λ v. IsEnd c zones key v) f (drop 1 (path_of below), top.rank, split, root.1, edge)

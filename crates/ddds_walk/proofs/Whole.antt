@@ -1,0 +1,199 @@
+-- A whole walk, from its turns; and what its one record says.
+use Rattle.std.proofs.Common.{◌≡◌, ℕ, ◌+◌, ◌≤◌, List, [], ◌∷◌, length, refl, sym, ◌∙◌, ap, subst, inl, inr, arith}
+use Rattle.std.specs.Prelude.{Contains, Option, Some, None, Result, Ok, Err, OnOk}
+use Rattle.enum_base.specs.Causes.{Rose}
+use Rattle.dns_name.specs.Name.{folded_labels}
+use Rattle.naptr_data.specs.Laws.{ZonesMakeOneOffer}
+use Rattle.naptr_data.specs.Zones.{Labels, Zone, rules_and_aliases}
+use Rattle.subst_expr.specs.Laws.{OneOutput}
+use Rattle.ddds_walk.specs.Asking.{WhereTold, more, NeedsMore, IsWhole, AsksAtMost, FetchesEnough, FetchesMissing, IsLimit}
+use Rattle.ddds_walk.specs.Graph.{graph_of}
+use Rattle.ddds_walk.specs.Kept.{HasKept}
+use Rattle.ddds_walk.specs.Report.{AreSomeNeeded, AreNeeded}
+use Rattle.ddds_walk.specs.Rules.{Client}
+use Rattle.ddds_walk.specs.Turns.{Tally, Serves, IsKept, HasTurned, IsGoing, HasWalked}
+use Rattle.ddds_walk.specs.declared.edge.Edge.TheVariants.{Step}
+use Rattle.ddds_walk.specs.declared.fault.WalkFault.{WalkFault}
+use Rattle.ddds_walk.specs.declared.fault.WalkFault.TheVariants.{Limit, Trouble, Memory}
+use Rattle.ddds_walk.specs.declared.lists.LoopPath.{LoopPath}
+use Rattle.ddds_walk.specs.declared.lists.Report.{Report}
+use Rattle.ddds_walk.specs.declared.lists.Report.TheVariants as report
+use Rattle.ddds_walk.specs.declared.turn.Turn.{Turn}
+use Rattle.ddds_walk.specs.declared.turn.Turn.TheVariants.{On, Done, Back}
+use Rattle.ddds_walk.specs.declared.turn.Walk.{Walk}
+use Rattle.ddds_walk.proofs.Entering.{key_folds}
+use Rattle.ddds_walk.proofs.Kept.{kept_start, kept_enough, kept_missing, past_limit}
+use Rattle.ddds_walk.proofs.StateMore.{state_start}
+
+-- a walk at the root
+abbrev pub at_root : Labels → Walk
+at_root key = record { asked = []; ends = []; below = []; top = record { domain = None; edges = Step key ∷ []; rank = 0 } }
+
+pub going_start : ZonesMakeOneOffer → OneOutput → (c : Client) (key : Labels) (limit : ℕ) (t : Tally)
+    → IsGoing c (folded_labels key) limit t t (at_root (folded_labels key))
+going_start offers outputs c key limit t = record {
+  zones = refl;
+  room = refl;
+  lent = refl;
+  later = omega arith;
+  sound = record { once = tt; few = omega arith; below = tt; top = (omega arith, omega arith, key_folds key) };
+  asks = refl;
+  kept = kept_start t.room t.kept t.fetched;
+  told = λ zones is. state_start offers outputs c zones (folded_labels key);
+}
+
+rose_from : (a b c : ℕ) → a ≤ b → Rose b c → Rose a c
+rose_from a b c l h = grind arith
+
+module _ (c : Client) (key : Labels) (limit : ℕ) (t u v : Tally) (Failed : Type 0) (w w' : Walk) (g : IsGoing c key limit t u w) where
+  kept_on : (result : Result Turn WalkFault) → HasTurned c limit u v Failed w w' result → IsKept result
+      → HasKept t.room t.kept t.fetched w'.asked v.kept v.fetched
+  kept_on result h k = subst (λ r. HasKept r t.kept t.fetched w'.asked v.kept v.fetched) g.room
+      (h.counts.kept k t.kept t.fetched (subst (λ r. HasKept r t.kept t.fetched w.asked u.kept u.fetched) (sym g.room) g.kept))
+
+  pub going_on : HasTurned c limit u v Failed w w' (Ok On) → IsGoing c key limit t v w'
+  going_on h = record {
+    zones = h.serves.zones ∙ g.zones;
+    room = h.serves.room ∙ g.room;
+    lent = h.serves.lent ∙ g.lent;
+    later = let a = g.later in let b = h.serves.later in omega arith;
+    sound = h.sound;
+    asks = h.counts.asks t.asks g.asks;
+    kept = kept_on (Ok On) h tt;
+    told = λ zones is. (h.told zones key (g.zones ∙ is) (g.told zones is)).1;
+  }
+
+  serves_on : (turn : Result Turn WalkFault) (result : Result Report WalkFault) → (result ≡ Err Trouble → turn ≡ Err Trouble)
+      → HasTurned c limit u v Failed w w' turn → Serves t v Failed result
+  serves_on turn result same h = record {
+    zones = h.serves.zones ∙ g.zones;
+    room = h.serves.room ∙ g.room;
+    lent = h.serves.lent ∙ g.lent;
+    later = let a = g.later in let b = h.serves.later in omega arith;
+    trouble = λ e. let x = h.serves.trouble (same e) in (rose_from t.troubles u.troubles v.troubles g.later x.0, x.1);
+  }
+
+  pub walked_done : HasTurned c limit u v Failed w w' (Ok Done) → HasWalked c key limit t v Failed (Ok (report.Ends w'.ends))
+  walked_done h = record {
+    asked = w'.asked;
+    serves = serves_on (Ok Done) (Ok (report.Ends w'.ends)) (λ e. cc) h;
+    once = h.counts.once;
+    few = h.counts.few;
+    asks = h.counts.asks t.asks g.asks;
+    kept = λ x. kept_on (Ok Done) h tt;
+    met = λ n e. cc;
+    told = λ zones is. let x = h.told zones key (g.zones ∙ is) (g.told zones is) in (x.0, x.1.0, x.1.1, λ n e. cc);
+  }
+
+  pub walked_back : (path : LoopPath) → HasTurned c limit u v Failed w w' (Ok (Back path)) → HasWalked c key limit t v Failed (Ok (report.Loop path))
+  walked_back path h = record {
+    asked = w'.asked;
+    serves = serves_on (Ok (Back path)) (Ok (report.Loop path)) (λ e. cc) h;
+    once = h.counts.once;
+    few = h.counts.few;
+    asks = h.counts.asks t.asks g.asks;
+    kept = λ x. kept_on (Ok (Back path)) h tt;
+    met = λ n e. cc;
+    told = λ zones is. let x = h.told zones key (g.zones ∙ is) (g.told zones is) in (x.0, x.1.0, x.1.1, λ n e. cc);
+  }
+
+  pub walked_err : (e : WalkFault) → HasTurned c limit u v Failed w w' (Err e) → HasWalked c key limit t v Failed (Err e)
+  walked_err e h = record {
+    asked = w'.asked;
+    serves = serves_on (Err e) (Err e) troubles h;
+    once = h.counts.once;
+    few = h.counts.few;
+    asks = h.counts.asks t.asks g.asks;
+    kept = λ x. kept_on (Err e) h (whole e x);
+    met = λ n f. h.counts.met n (limits n f);
+    told = λ zones is. let x = h.told zones key (g.zones ∙ is) (g.told zones is) in (x.0, tt, tt, λ n f. x.2 n (limits n f));
+  }
+    where
+      troubles : ◌≡◌ {A = Result Report WalkFault} (Err e) (Err Trouble) → ◌≡◌ {A = Result Turn WalkFault} (Err e) (Err Trouble)
+      troubles f = let i : e ≡ Trouble = cc in ap Err i
+
+      limits : (n : ℕ) → ◌≡◌ {A = Result Report WalkFault} (Err e) (Err (Limit n)) → ◌≡◌ {A = Result Turn WalkFault} (Err e) (Err (Limit n))
+      limits n f = let i : e ≡ Limit n = cc in ap Err i
+
+      whole : (e : WalkFault) → IsWhole (Err e) → IsKept {A = Turn} (Err e)
+      whole (Limit n) x = x
+      whole Trouble x = x
+      whole Memory x = x
+
+-- the same, of a walk and a turn that are known by equations
+pub going_at : ZonesMakeOneOffer → OneOutput → (c : Client) (key : Labels) (limit : ℕ) (t : Tally) (w : Walk)
+    → w ≡ at_root (folded_labels key) → IsGoing c (folded_labels key) limit t t w
+going_at offers outputs c key limit t w e =
+    subst (λ v. IsGoing c (folded_labels key) limit t t v) (sym e) (going_start offers outputs c key limit t)
+
+module _ (c : Client) (key : Labels) (limit : ℕ) (t u v : Tally) (Failed : Type 0) (w w' : Walk) (g : IsGoing c key limit t u w)
+    (turn : Turn) (h : HasTurned c limit u v Failed w w' (Ok turn)) where
+  pub going_by : turn ≡ On → IsGoing c key limit t v w'
+  going_by e = going_on c key limit t u v Failed w w' g (subst (λ x. HasTurned c limit u v Failed w w' (Ok x)) e h)
+
+  pub done_by : turn ≡ Done → HasWalked c key limit t v Failed (Ok (report.Ends w'.ends))
+  done_by e = walked_done c key limit t u v Failed w w' g (subst (λ x. HasTurned c limit u v Failed w w' (Ok x)) e h)
+
+  pub back_by : (path : LoopPath) → turn ≡ Back path → HasWalked c key limit t v Failed (Ok (report.Loop path))
+  back_by path e = walked_back c key limit t u v Failed w w' g path (subst (λ x. HasTurned c limit u v Failed w w' (Ok x)) e h)
+
+-- a walk for which memory was wanting before it began
+pub walked_nothing : (c : Client) (key : Labels) (limit : ℕ) (t : Tally) (Failed : Type 0) → HasWalked c key limit t t Failed (Err Memory)
+walked_nothing c key limit t Failed = record {
+  asked = [];
+  serves = record { zones = refl; room = refl; lent = refl; later = omega arith; trouble = λ e. cc };
+  once = tt;
+  few = omega arith;
+  asks = refl;
+  kept = λ x. absurd x;
+  met = λ n e. cc;
+  told = λ zones is. (record { once = tt; only = λ d h. absurd (none d h) }, tt, tt, λ n e. cc);
+}
+  where
+    none : (d : Labels) → Contains [] d → ⊥
+    none d h = omega (arith, h.1)
+
+where_told : (told : Option (List Zone)) (Fact : List Zone → Type 0) → ((zones : List Zone) → told ≡ Some zones → Fact zones) → WhereTold told Fact
+where_told None Fact f = tt
+where_told (Some zones) Fact f = f zones refl
+
+ok_of : {A E Q : Type 0} (r : Result A E) → Q → OnOk r Q
+ok_of (Ok x) q = q
+ok_of (Err e) q = tt
+
+-- what the public clauses of a walk say, each from its one record
+module _ (c : Client) (key : Labels) (limit : ℕ) (t u : Tally) (Failed : Type 0) (result : Result Report WalkFault)
+    (h : HasWalked c key limit t u Failed result) where
+  pub says_bound : ((c : Client) (zones : List Zone) (key : Labels) (ds : List Labels) → AreSomeNeeded (graph_of c zones) key ds
+      → length ds ≤ rules_and_aliases zones + 1) → WhereTold t.zones (λ zones. OnOk result (AsksAtMost (rules_and_aliases zones + 1) t.asks u.asks))
+  says_bound bound = where_told t.zones (λ zones. OnOk result (AsksAtMost (rules_and_aliases zones + 1) t.asks u.asks))
+      (λ zones is. ok_of result (length h.asked, bound c zones key h.asked (h.told zones is).0, h.asks))
+
+  pub says_stops : WhereTold t.zones (λ zones. NeedsMore (graph_of c zones) key limit → ¬ Rose t.troubles u.troubles → IsLimit limit result)
+  says_stops = where_told t.zones (λ zones. NeedsMore (graph_of c zones) key limit → ¬ Rose t.troubles u.troubles → IsLimit limit result)
+      (λ zones is more calm. by zones is more calm result refl)
+    where
+      by : (zones : List Zone) → t.zones ≡ Some zones → NeedsMore (graph_of c zones) key limit → ¬ Rose t.troubles u.troubles
+          → (r : Result Report WalkFault) → result ≡ r → IsLimit limit r
+      by zones is (ds, some, l) calm (Ok report) e =
+          let all : AreNeeded (graph_of c zones) key h.asked = subst (λ v. OnOk v (AreNeeded (graph_of c zones) key h.asked)) e (h.told zones is).2 in
+          let f = h.few in
+          absurd (past_limit ds h.asked some.once (λ d k. all.all d (some.only d k)) (omega arith))
+      by zones is more calm (Err (Limit n)) e = let m = h.met n e in inl (ap (λ v. Err (Limit v)) m.0)
+      by zones is more calm (Err Trouble) e = absurd (calm (h.serves.trouble e).0)
+      by zones is more calm (Err Memory) e = inr refl
+
+  pub says_fetched : IsWhole result → FetchesEnough t.kept t.asks u.asks t.fetched u.fetched
+  says_fetched w = kept_enough t.room t.kept t.fetched h.asked u.kept u.fetched t.asks u.asks (h.kept w) h.asks
+
+  pub says_missing : WhereTold t.zones (λ zones. OnOk result (FetchesMissing (graph_of c zones) key t.room t.kept u.kept t.fetched u.fetched))
+  says_missing = where_told t.zones (λ zones. OnOk result (FetchesMissing (graph_of c zones) key t.room t.kept u.kept t.fetched u.fetched))
+      (λ zones is. by zones is result refl)
+    where
+      by : (zones : List Zone) → t.zones ≡ Some zones → (r : Result Report WalkFault) → result ≡ r
+          → OnOk r (FetchesMissing (graph_of c zones) key t.room t.kept u.kept t.fetched u.fetched)
+      by zones is (Ok report) e =
+          let all : AreNeeded (graph_of c zones) key h.asked = subst (λ v. OnOk v (AreNeeded (graph_of c zones) key h.asked)) e (h.told zones is).2 in
+          let k : HasKept t.room t.kept t.fetched h.asked u.kept u.fetched = h.kept (subst IsWhole (sym e) tt) in
+          kept_missing (graph_of c zones) key t.room t.kept t.fetched h.asked u.kept u.fetched k all
+      by zones is (Err fault) e = tt

@@ -1,0 +1,109 @@
+-- Which rules a client may follow from a domain, and what each gives (RFC 3402, section 3; RFC 3403, sections 4 and 6).
+-- Which rules are admissible, and that the least ORDER is taken among these, is this project's own.
+use Rattle.std.specs.Prelude.{◌≡◌, ◌≢◌, ◌↔◌, ◌⊎◌, ℕ, ◌<◌, ◌≤◌, Bool, true, ◌&&◌, ◌||◌, ◌==◌, nat_le, List, [], ◌∷◌, ◌++◌, length, slice_get, Contains, Option, Some, Ok}
+use Rattle.std.specs.Char.{is_ascii_alphabetic, is_ascii_digit}
+use Rattle.std.specs.List.{AllPass}
+use Rattle.dns_name.specs.Name.{folded_labels}
+use Rattle.dns_name.specs.Reading.{name_of}
+use Rattle.naptr_data.specs.Zones.{Labels, Zone, IsOffer, IsRising}
+use Rattle.naptr_data.specs.declared.offer.Offer.{Offer}
+use Rattle.naptr_data.specs.declared.offer.Offer.TheVariants as offer
+use Rattle.naptr_data.specs.declared.rule.Naptr.{Naptr}
+use Rattle.service_field.specs.declared.kind.Kind.{Kind}
+use Rattle.service_field.specs.declared.kind.Kind.TheVariants as kind
+use Rattle.subst_expr.specs.Output.{IsOutput}
+use Rattle.ddds_walk.specs.declared.edge.Edge.{Edge}
+use Rattle.ddds_walk.specs.declared.edge.Edge.TheVariants.{Step, Stop}
+use Rattle.ddds_walk.specs.declared.lists.Outcome.TheVariants.{Uri, Target}
+
+-- who asks: what flags mean, which services serve, whether a rule that is not terminal may give its next domain by REGEXP,
+-- and the original string, to which every expression is applied (RFC 3402, section 3)
+pub record Client : Type 0 where
+  pub kind : List ℕ → Kind
+  pub serves : List ℕ → Bool
+  pub steps_by_regexp : Bool
+  pub string : List ℕ
+
+-- the client of an application, by what it tells, with the wanted services and the original string
+abbrev pub client_of : {P : Type 0} → (P → List ℕ → Kind) → (P → Option (List ℕ) → List ℕ → Bool) → (P → Bool) → P → Option (List ℕ) → List ℕ → Client
+client_of kinds serves steps app wanted string = record {
+  kind = λ flags. kinds app flags;
+  serves = λ services. serves app wanted services;
+  steps_by_regexp = steps app;
+  string = string;
+}
+
+-- what REGEXP gives over the original string: 1 to 1,024 bytes
+pub record HasOutput (rule : Naptr) (string bytes : List ℕ) : Type 0 where
+  pub output : IsOutput rule.regexp string bytes
+  pub some : 0 < length bytes
+  pub most : length bytes ≤ 1024
+
+-- a byte of a scheme behind its first letter (RFC 3986, 3.1)
+abbrev pub is_scheme_byte : ℕ → Bool
+is_scheme_byte b = is_ascii_alphabetic b || is_ascii_digit b || b == 43 || b == 45 || b == 46
+
+abbrev pub is_visible : ℕ → Bool
+is_visible b = nat_le 33 b && nat_le b 126
+
+-- a URI: a letter, letters, digits, `+`, `-` or `.`, a colon, and at least one byte, all visible (RFC 3986, 3)
+pub record IsUri (bytes : List ℕ) : Type 0 where
+  pub first : ℕ
+  pub scheme : List ℕ
+  pub rest : List ℕ
+  pub parts : bytes ≡ first ∷ (scheme ++ 58 ∷ rest)
+  pub letter : is_ascii_alphabetic first ≡ true
+  pub scheme_bytes : AllPass is_scheme_byte scheme
+  pub some : 0 < length rest
+  pub visible : AllPass is_visible rest
+
+-- REGEXP alone is there, or REPLACEMENT alone (RFC 3403, 4.1)
+abbrev pub HasRegexp : Naptr → Type 0
+HasRegexp rule = (rule.regexp ≢ []) × (rule.replacement ≡ [])
+
+abbrev pub HasReplacement : Naptr → Type 0
+HasReplacement rule = (rule.regexp ≡ []) × (rule.replacement ≢ [])
+
+-- REGEXP gives this domain: its output reads as a name, of which the root is the origin
+abbrev pub GivesName : Naptr → List ℕ → Labels → Type 0
+GivesName rule string domain =
+    (bytes : List ℕ) × (labels : Labels) × HasOutput rule string bytes × (name_of bytes (Some []) ≡ Ok labels)
+    × (domain ≡ folded_labels labels)
+
+-- what a rule gives under what its flags mean: the next domain, a URI, or a domain with a letter
+abbrev pub GivesAs : Kind → Client → Naptr → Edge → Type 0
+GivesAs kind.Step c rule (Step domain) =
+    ((c.serves rule.services ≡ true) ⊎ (rule.services ≡ []))
+    × ((HasReplacement rule × (domain ≡ folded_labels rule.replacement))
+    ⊎ ((c.steps_by_regexp ≡ true) × HasRegexp rule × GivesName rule c.string domain))
+GivesAs kind.TerminalUri c rule (Stop r (Uri bytes)) =
+    (r ≡ rule) × (c.serves rule.services ≡ true) × HasRegexp rule × HasOutput rule c.string bytes × IsUri bytes
+GivesAs (kind.TerminalName l) c rule (Stop r (Target m name)) =
+    (r ≡ rule) × (c.serves rule.services ≡ true) × HasReplacement rule × (m ≡ l) × (name ≡ rule.replacement)
+GivesAs k c rule edge = ⊥
+
+-- what a rule gives
+abbrev pub Gives : Client → Naptr → Edge → Type 0
+Gives c rule edge = GivesAs (c.kind rule.flags) c rule edge
+
+-- a rule is admissible where it gives something
+abbrev pub IsAdmissible : Client → Naptr → Type 0
+IsAdmissible c rule = (edge : Edge) × Gives c rule edge
+
+-- the rules that are followed: of the admissible ones those of the least ORDER, in their order
+pub record AreFollowed (c : Client) (rules chosen : List Naptr) : Type 0 where
+  pub each : (rule : Naptr) → Contains chosen rule
+      ↔ (Contains rules rule × IsAdmissible c rule
+      × ((other : Naptr) → Contains rules other → IsAdmissible c other → rule.order ≤ other.order))
+  pub rising : IsRising chosen
+
+-- the edge of that rank out of a domain with this offer; an alias is one edge, of rank 0
+abbrev pub IsEdgeOf : Client → Offer → ℕ → Edge → Type 0
+IsEdgeOf c (offer.Rules rules) rank edge =
+    (chosen : List Naptr) × (rule : Naptr) × AreFollowed c rules chosen × (slice_get chosen rank ≡ Some rule) × Gives c rule edge
+IsEdgeOf c (offer.Alias target) rank edge = (rank ≡ 0) × (edge ≡ Step (folded_labels target))
+IsEdgeOf c offer.Unserved rank edge = ⊥
+
+-- the edge of that rank out of a domain of the zones
+abbrev pub IsEdge : Client → List Zone → Labels → ℕ → Edge → Type 0
+IsEdge c zones domain rank edge = (o : Offer) × IsOffer zones domain o × IsEdgeOf c o rank edge
