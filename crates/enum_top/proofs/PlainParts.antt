@@ -1,5 +1,5 @@
 -- Cutting a text, and what stands at its front.
-use Rattle.std.proofs.Common.{◌≡◌, ℕ, ◌+◌, ◌-◌, List, [], ◌∷◌, ◌++◌, length, take, drop, get_or, Option, Some, None, option_map, Bool, true, false, eqb, ltb, nat_eq, position, ◌&&◌, arith, refl, ap, inl, inr, add-one, length-append, drop-cons}
+use Rattle.std.proofs.Common.{◌≡◌, ℕ, ◌+◌, ◌-◌, List, [], ◌∷◌, ◌++◌, length, take, drop, get_or, Option, Some, None, option_map, Bool, true, false, eqb, ltb, nat_eq, position, ◌&&◌, arith, refl, ap, ◌∙◌, inl, inr, add-one, length-append, drop-cons}
 use Rattle.std.specs.List.{AllByRecursion, position_or_len, list_all}
 use Rattle.std.specs.Cmp.Lexicographic.{pointwise}
 use Rattle.std.specs.Prelude.{bytes_eq}
@@ -98,3 +98,11 @@ behind-sound front text rest h =
 pub both_steps : {A B : Type 0} (first : Option A) (next : A → Option B) (y : B) → (first >>= next) ≡ Some y → (x : A) × (first ≡ Some x) × (next x ≡ Some y)
 both_steps None next y h = cc
 both_steps (Some x) next y h = (x, refl, h)
+
+-- a field and a space before what is written on
+pub field_before : (front text rest whole : List ℕ) → text ≡ front ++ 32 ∷ rest → rest ≡ whole → text ≡ front ++ 32 ∷ whole
+field_before front text rest whole h e = h ∙ ap (λ v. front ++ 32 ∷ v) e
+
+-- bytes before what is written on
+pub bytes_before : (front text rest whole : List ℕ) → text ≡ front ++ rest → rest ≡ whole → text ≡ front ++ whole
+bytes_before front text rest whole h e = h ∙ ap (λ v. front ++ v) e

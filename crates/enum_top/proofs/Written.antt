@@ -1,5 +1,5 @@
 -- How far a write has come.
-use Rattle.std.proofs.Common.{◌≡◌, ℕ, ◌+◌, ◌-◌, ◌≤◌, min, List, ◌++◌, length, take, drop, Option, Some, None, refl, sym, ap, subst, ◌∙◌, append_assoc, arith}
+use Rattle.std.proofs.Common.{◌≡◌, ℕ, ◌+◌, ◌-◌, ◌≤◌, min, List, ◌++◌, length, take, drop, Option, sym, ap, subst, ◌∙◌, arith}
 use Rattle.std.proofs.Math.Seq.{take-add, take-append-add}
 use Rattle.std.proofs.lemmas.List.{take_rest, take-append-le, take_min}
 use Rattle.enum_base.specs.Causes.{Rose}
@@ -37,3 +37,7 @@ Takes-second held between held' faults middle faults' one other whole count t = 
   whole = λ calm.
       t.whole (λ rose. calm (subst (λ n. Rose n faults') count rose)) ∙ ap (λ h. with_more h other) whole ∙ with_more-twice held one other;
 }
+
+-- bytes are taken by what they are
+pub Takes-same : (held held' : Option (List ℕ)) (faults faults' : ℕ) (bytes other : List ℕ) → bytes ≡ other → Takes held held' faults faults' bytes → Takes held held' faults faults' other
+Takes-same held held' faults faults' bytes other same t = subst (Takes held held' faults faults') same t

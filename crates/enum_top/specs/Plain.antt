@@ -1,15 +1,13 @@
--- Plain zone texts, the files that are read so far (this project's own; a part of the master files of RFC 1035, 5.1).
+-- Plain zone texts, the files that are read (this project's own; a part of the master files of RFC 1035, 5.1).
 -- A plain text is what its entries print.
-use Rattle.std.specs.Prelude.{◌≡◌, ◌≢◌, ℕ, ◌<◌, ◌≤◌, Bool, ◌&&◌, ◌||◌, ◌==◌, nat_le, List, [], ◌∷◌, ◌++◌, length, map, codes, decimal}
+use Rattle.std.specs.Prelude.{◌≡◌, ◌⊎◌, ℕ, ◌<◌, ◌≤◌, Bool, ◌&&◌, ◌||◌, ◌==◌, nat_le, if◌then◌else◌, List, [], ◌∷◌, ◌++◌, length, map, codes, decimal, bytes_eq}
 use Rattle.std.specs.Char.{is_ascii_digit}
-use Rattle.std.specs.List.{AllByRecursion, AllPass, flat_map, join_with_byte}
-use Rattle.dns_name.specs.Name.{IsName, IsBelow}
+use Rattle.std.specs.Cmp.Lexicographic.{pointwise}
+use Rattle.std.specs.List.{AllByRecursion, AllPass, count_by, flat_map, join_with_byte}
+use Rattle.dns_name.specs.Name.{IsName, IsBelow, AreSame, folded_labels}
 use Rattle.dns_name.specs.Text.{text_of}
-use Rattle.enum_top.specs.declared.plain.PlainRule.{PlainRule}
-
--- names, as lists of labels
-abbrev pub Labels : Type 0
-Labels = List (List ℕ)
+use Rattle.naptr_data.specs.declared.rule.Naptr.{Naptr}
+use Rattle.naptr_data.specs.Zones.{Labels, Owned, Zone, rule, alias, delegation, other}
 
 -- the numbers of a start of authority (RFC 1035, 3.3.13)
 pub record Timers : Type 0 where
@@ -22,28 +20,57 @@ pub record Timers : Type 0 where
 -- one line of a plain text
 pub data Entry : Type 0 where
   -- the start of authority, with the apex, the server, the mailbox and the numbers
-  authority : (apex host mailbox : Labels) → Timers → Entry
+  soa : (apex host mailbox : Labels) → Timers → Entry
   -- a server of the zone
-  server : (owner target : Labels) → Entry
-  -- a rule that ends at one URI
-  rule : (owner : Labels) (order preference : ℕ) (tag uri : List ℕ) → Entry
+  ns : (owner target : Labels) → Entry
+  -- a name that stands for another
+  cname : (owner target : Labels) → Entry
+  -- a rule
+  naptr : (owner : Labels) → Naptr → Entry
 
--- the fields behind the owner and the TTL
+-- the owner of an entry
+abbrev pub owner_of : Entry → Labels
+owner_of (soa apex host mailbox t) = apex
+owner_of (ns owner target) = owner
+owner_of (cname owner target) = owner
+owner_of (naptr owner r) = owner
+
+-- the type of an entry
+abbrev pub type_of : Entry → List ℕ
+type_of (soa apex host mailbox t) = codes "SOA"
+type_of (ns owner target) = codes "NS"
+type_of (cname owner target) = codes "CNAME"
+type_of (naptr owner r) = codes "NAPTR"
+
+-- a byte between quotation marks: a quotation mark and a backslash have a backslash before them
+abbrev pub quoted_byte : ℕ → List ℕ
+quoted_byte b = if b == 34 || b == 92 then 92 ∷ b ∷ [] else b ∷ []
+
+-- a text between quotation marks
+abbrev pub quoted : List ℕ → List ℕ
+quoted text = 34 ∷ flat_map quoted_byte text ++ 34 ∷ []
+
+-- the fields of an entry's data
+abbrev pub data_of : Entry → List (List ℕ)
+data_of (soa apex host mailbox t) =
+    text_of host ∷ text_of mailbox ∷ decimal t.serial ∷ decimal t.refresh ∷ decimal t.retry ∷ decimal t.expire ∷ decimal t.minimum ∷ []
+data_of (ns owner target) = text_of target ∷ []
+data_of (cname owner target) = text_of target ∷ []
+data_of (naptr owner r) =
+    decimal r.order ∷ decimal r.preference ∷ quoted r.flags ∷ quoted r.services ∷ quoted r.regexp ∷ text_of r.replacement ∷ []
+
+-- the fields of an entry
 abbrev pub fields_of : Entry → List (List ℕ)
-fields_of (authority apex host mailbox t) =
-    text_of apex ∷ codes "3600" ∷ codes "IN" ∷ codes "SOA" ∷ text_of host ∷ text_of mailbox ∷ decimal t.serial ∷ decimal t.refresh ∷ decimal t.retry ∷ decimal t.expire ∷ decimal t.minimum ∷ []
-fields_of (server owner target) =
-    text_of owner ∷ codes "3600" ∷ codes "IN" ∷ codes "NS" ∷ text_of target ∷ []
-fields_of (rule owner order preference tag uri) =
-    text_of owner ∷ codes "3600" ∷ codes "IN" ∷ codes "NAPTR" ∷ decimal order ∷ decimal preference ∷ codes "\"u\"" ∷ (codes "\"E2U+" ++ tag ++ codes "\"") ∷ (codes "\"!^.*$!" ++ uri ++ codes "!\"") ∷ codes "." ∷ []
+fields_of entry = text_of (owner_of entry) ∷ codes "3600" ∷ codes "IN" ∷ type_of entry ∷ data_of entry
 
 -- the line of an entry: its fields with one space between, and a line feed
 abbrev pub line_of : Entry → List ℕ
 line_of entry = join_with_byte 32 (fields_of entry) ++ 10 ∷ []
 
--- a small letter, a digit or a hyphen
+-- a letter, a digit, a hyphen or an underscore
 abbrev pub is_plain_byte : ℕ → Bool
-is_plain_byte b = (nat_le 97 b && nat_le b 122) || is_ascii_digit b || b == 45
+is_plain_byte b =
+    (nat_le 97 b && nat_le b 122) || (nat_le 65 b && nat_le b 90) || is_ascii_digit b || b == 45 || b == 95
 
 -- a name of a plain text: one or more labels of plain bytes
 pub record IsPlainName (labels : Labels) : Type 0 where
@@ -51,74 +78,77 @@ pub record IsPlainName (labels : Labels) : Type 0 where
   pub some : 0 < length labels
   pub plain : AllByRecursion (λ label. AllPass is_plain_byte label) labels
 
--- a service tag: 1 to 32 plain bytes
-pub record IsTag (tag : List ℕ) : Type 0 where
-  pub some : 0 < length tag
-  pub most : length tag ≤ 32
-  pub plain : AllPass is_plain_byte tag
+-- a byte of a text between quotation marks
+abbrev pub is_text_byte : ℕ → Bool
+is_text_byte b = nat_le 32 b && nat_le b 126
 
-abbrev pub is_scheme_byte : ℕ → Bool
-is_scheme_byte b = (nat_le 97 b && nat_le b 122) || is_ascii_digit b
+-- a text of a rule: at most 255 bytes, before they are quoted
+pub record IsPlainString (text : List ℕ) : Type 0 where
+  pub most : length text ≤ 255
+  pub bytes : AllPass is_text_byte text
 
--- a letter, a digit or one of @ . : / - _
-abbrev pub is_address_byte : ℕ → Bool
-is_address_byte b =
-    (nat_le 97 b && nat_le b 122) || (nat_le 65 b && nat_le b 90) || is_ascii_digit b || b == 64 || b == 46 || b == 58 || b == 47 || b == 45 || b == 95
-
--- a URI of a plain text: a scheme that begins with a small letter, a colon, and one byte or more (RFC 3986, 3)
-pub record IsPlainUri (uri : List ℕ) : Type 0 where
-  pub first : ℕ
-  pub scheme : List ℕ
-  pub address : List ℕ
-  pub parts : uri ≡ first ∷ scheme ++ 58 ∷ address
-  pub letter : (97 ≤ first) × (first ≤ 122)
-  pub scheme_bytes : AllPass is_scheme_byte scheme
-  pub some : 0 < length address
-  pub address_bytes : AllPass is_address_byte address
-  pub most : length uri ≤ 248
+-- a rule of a plain text; its replacement is the root or a plain name
+pub record IsPlainRule (r : Naptr) : Type 0 where
+  pub order : r.order ≤ 65535
+  pub preference : r.preference ≤ 65535
+  pub flags : IsPlainString r.flags
+  pub services : IsPlainString r.services
+  pub regexp : IsPlainString r.regexp
+  pub replacement : (r.replacement ≡ []) ⊎ IsPlainName r.replacement
 
 abbrev pub IsTimer : ℕ → Type 0
 IsTimer n = n ≤ 2147483647
 
 -- the first entry: the start of authority of this apex
 abbrev pub IsFirst : Labels → Entry → Type 0
-IsFirst apex (authority owner host mailbox t) =
+IsFirst apex (soa owner host mailbox t) =
     (owner ≡ apex) × IsPlainName owner × IsPlainName host × IsPlainName mailbox × IsTimer t.serial × IsTimer t.refresh × IsTimer t.retry × IsTimer t.expire × IsTimer t.minimum
-IsFirst apex (server owner target) = ⊥
-IsFirst apex (rule owner order preference tag uri) = ⊥
+IsFirst apex (ns owner target) = ⊥
+IsFirst apex (cname owner target) = ⊥
+IsFirst apex (naptr owner r) = ⊥
 
--- an entry behind the first: a server of the apex, or a rule at or below it
+-- an entry behind the first: a server of the apex, or an alias or a rule at or below it
 abbrev pub IsBehind : Labels → Entry → Type 0
-IsBehind apex (authority owner host mailbox t) = ⊥
-IsBehind apex (server owner target) = (owner ≡ apex) × IsPlainName target
-IsBehind apex (rule owner order preference tag uri) =
-    IsPlainName owner × IsBelow owner apex × (order ≤ 65535) × (preference ≤ 65535) × IsTag tag × IsPlainUri uri
+IsBehind apex (soa owner host mailbox t) = ⊥
+IsBehind apex (ns owner target) = IsPlainName owner × AreSame owner apex × IsPlainName target
+IsBehind apex (cname owner target) = IsPlainName owner × IsBelow owner apex × IsPlainName target
+IsBehind apex (naptr owner r) = IsPlainName owner × IsBelow owner apex × IsPlainRule r
 
--- the rule of an entry of that kind (RFC 3403, 4.1; RFC 6116, 3.4)
-abbrev pub rule_of : Labels → (order preference : ℕ) → (tag uri : List ℕ) → PlainRule
-rule_of owner order preference tag uri =
-    record { owner = owner; rule = record { order = order; preference = preference; flags = codes "u"; services = codes "E2U+" ++ tag; regexp = codes "!^.*$!" ++ uri ++ codes "!"; replacement = [] } }
+-- each entry stands so to each behind it
+abbrev pub Pairwise : (Entry → Entry → Type 0) → List Entry → Type 0
+Pairwise Related [] = Unit {0}
+Pairwise Related (entry ∷ entries) = AllByRecursion (Related entry) entries × Pairwise Related entries
 
--- the rules among entries, in their order
-abbrev pub rules_of : List Entry → List PlainRule
-rules_of [] = []
-rules_of (authority owner host mailbox t ∷ rest) = rules_of rest
-rules_of (server owner target ∷ rest) = rules_of rest
-rules_of (rule owner order preference tag uri ∷ rest) = rule_of owner order preference tag uri ∷ rules_of rest
+-- two entries do not agree in owner, type and data
+abbrev pub AreApart : Entry → Entry → Type 0
+AreApart one more = ¬ (AreSame (owner_of one) (owner_of more) × (type_of one ≡ type_of more) × (data_of one ≡ data_of more))
 
--- no item is one of those behind it
-abbrev pub AreDistinct : List (List ℕ) → Type 0
-AreDistinct [] = Unit {0}
-AreDistinct (line ∷ lines) = AllByRecursion (λ other. line ≢ other) lines × AreDistinct lines
+-- where one of two entries is a CNAME, they have different owners (RFC 1034, 3.6.2)
+abbrev pub IsAliasAlone : Entry → Entry → Type 0
+IsAliasAlone one more =
+    ((type_of one ≡ codes "CNAME") ⊎ (type_of more ≡ codes "CNAME")) → ¬ AreSame (owner_of one) (owner_of more)
 
--- bytes are a plain text of this apex and these rules
-pub record IsPlainText (bytes : List ℕ) (apex : Labels) (rules : List PlainRule) : Type 0 where
+-- an entry has this owner
+abbrev pub has_owner : Labels → Entry → Bool
+has_owner owner entry = pointwise bytes_eq (folded_labels owner) (folded_labels (owner_of entry))
+
+-- what an entry states of its owner
+abbrev pub stated_of : Entry → Owned
+stated_of (soa apex host mailbox t) = record { owner = apex; item = other }
+stated_of (ns owner target) = record { owner = owner; item = delegation }
+stated_of (cname owner target) = record { owner = owner; item = alias target }
+stated_of (naptr owner r) = record { owner = owner; item = rule r }
+
+-- bytes are a plain text of this zone
+pub record IsPlainText (bytes : List ℕ) (zone : Zone) : Type 0 where
   pub first : Entry
   pub behind : List Entry
   pub spelled : bytes ≡ flat_map line_of (first ∷ behind)
-  pub short : length bytes ≤ 65536
-  pub most : length (first ∷ behind) ≤ 100
-  pub authority : IsFirst apex first
-  pub each : AllByRecursion (IsBehind apex) behind
-  pub distinct : AreDistinct (map line_of (first ∷ behind))
-  pub same_rules : rules ≡ rules_of behind
+  pub short : length bytes ≤ 262144
+  pub most : length (first ∷ behind) ≤ 1000
+  pub authority : IsFirst zone.apex first
+  pub each : AllByRecursion (IsBehind zone.apex) behind
+  pub distinct : Pairwise AreApart (first ∷ behind)
+  pub alone : Pairwise IsAliasAlone (first ∷ behind)
+  pub few : (owner : Labels) → count_by (has_owner owner) (first ∷ behind) ≤ 40
+  pub same_items : zone.items ≡ map stated_of (first ∷ behind)

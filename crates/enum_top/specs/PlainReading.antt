@@ -1,18 +1,21 @@
 -- A plain reading of plain texts from left to right. That it reads exactly what `Plain` defines is proved.
-use Rattle.std.specs.Prelude.{ℕ, zero, suc, ◌+◌, ◌-◌, nat_le, nat_lt, nat_eq, List, [], ◌∷◌, length, take, drop, map, position, Bool, false, ◌&&◌, ◌||◌, ◌==◌, if◌then◌else◌, Option, Some, None, option_map, option_and_then, is_some, Result, Ok, Err, bytes_eq, codes, decimal}
-use Rattle.std.specs.List.{list_all}
-use Rattle.std.specs.Option.{option_map_or}
+use Rattle.std.specs.Prelude.{ℕ, zero, suc, ◌+◌, ◌-◌, nat_le, nat_lt, nat_eq, List, [], ◌∷◌, length, take, drop, map, position, Bool, true, false, not, ◌&&◌, ◌||◌, ◌==◌, if◌then◌else◌, Option, Some, None, option_map, option_and_then, Result, Ok, Err, bytes_eq, codes, decimal}
+use Rattle.std.specs.List.{list_all, count_by}
 use Rattle.std.specs.Cmp.Lexicographic.{pointwise}
 use Rattle.enum_base.specs.Decimal.{number_up_to}
-use Rattle.enum_base.specs.Folding.{folded}
 use Rattle.enum_base.specs.declared.number.NumFault.{NumFault}
-use Rattle.dns_name.specs.Name.{wire_of}
+use Rattle.dns_name.specs.Name.{wire_of, folded_labels}
 use Rattle.dns_name.specs.Text.{text_of}
-use Rattle.enum_top.specs.declared.plain.PlainRule.{PlainRule}
-use Rattle.enum_top.specs.declared.plain.PlainText.{PlainText}
+use Rattle.naptr_data.specs.declared.rule.Naptr.{Naptr}
+use Rattle.naptr_data.specs.Zones.{Labels, Zone}
+use Rattle.enum_top.specs.declared.plain.PlainItem.{PlainItem}
+use Rattle.enum_top.specs.declared.plain.PlainItem.TheVariants as item
+use Rattle.enum_top.specs.declared.plain.PlainOwned.{PlainOwned}
+use Rattle.enum_top.specs.declared.plain_line.Content.{Content}
+use Rattle.enum_top.specs.declared.plain_line.Content.TheVariants.{Authority, Server, Alias, Rule}
 use Rattle.enum_top.specs.declared.plain_line.Line.{Line}
-use Rattle.enum_top.specs.declared.plain_line.Line.TheVariants.{Server, Rule}
-use Rattle.enum_top.specs.Plain.{is_plain_byte, is_scheme_byte, is_address_byte}
+use Rattle.enum_top.specs.Plain.{is_plain_byte, is_text_byte}
+use Rattle.enum_top.specs.PlainZone.{owned_of}
 
 infixl 10 ◌>>=◌
 abbrev pub ◌>>=◌ : {A B : Type 0} → Option A → (A → Option B) → Option B
@@ -68,10 +71,14 @@ abbrev pub is_name_byte : ℕ → Bool
 is_name_byte b = b == 46 || is_plain_byte b
 
 -- the plain name of a whole text
-unfoldable pub name_in : List ℕ → Option (List (List ℕ))
+unfoldable pub name_in : List ℕ → Option Labels
 name_in text =
     if are_plain (dotted_labels text) && bytes_eq (text_of (dotted_labels text)) text
     then Some (dotted_labels text) else None
+
+-- the root or the plain name of a whole text
+unfoldable pub last_name_in : List ℕ → Option Labels
+last_name_in text = if bytes_eq text (codes ".") then Some [] else name_in text
 
 -- what stands behind a plain name and a space
 unfoldable pub behind_name : List ℕ → Option (List ℕ)
@@ -81,31 +88,58 @@ behind_name text = do
   Some field.1
 
 -- two names have the same labels
-unfoldable pub are_equal : List (List ℕ) → List (List ℕ) → Bool
+unfoldable pub are_equal : Labels → Labels → Bool
 are_equal one other = pointwise bytes_eq one other
 
+-- two names have the same labels, without regard to case
+unfoldable pub are_alike : Labels → Labels → Bool
+are_alike one other = are_equal (folded_labels one) (folded_labels other)
+
 -- a name ends with the labels of another, without regard to case
-unfoldable pub ends_as : List (List ℕ) → List (List ℕ) → Bool
+unfoldable pub ends_as : Labels → Labels → Bool
 ends_as name top =
-    nat_le (length top) (length name) && are_equal (map folded (drop (length name - length top) name)) (map folded top)
+    nat_le (length top) (length name) && are_alike (drop (length name - length top) name) top
 
-unfoldable pub is_tag : List ℕ → Bool
-is_tag tag = nat_lt 0 (length tag) && nat_le (length tag) 32 && list_all is_plain_byte tag
+-- the place of the first quotation mark that no backslash escapes
+abbrev pub closing_from : Bool → ℕ → List ℕ → Option ℕ
+closing_from escaped at [] = None
+closing_from escaped at (b ∷ rest) =
+    if not escaped && b == 34 then Some at else closing_from (not escaped && b == 92) (at + 1) rest
 
--- a small letter, then small letters or digits
-abbrev pub is_scheme : List ℕ → Bool
-is_scheme [] = false
-is_scheme (first ∷ rest) = nat_le 97 first && nat_le first 122 && list_all is_scheme_byte rest
+-- what stands before the closing quotation mark, and what stands behind it
+unfoldable pub quoted_parts : List ℕ → Option (List ℕ × List ℕ)
+quoted_parts text = option_map (λ at. (take at text, drop (at + 1) text)) (closing_from false 0 text)
 
-abbrev pub is_address : List ℕ → Bool
-is_address address = nat_lt 0 (length address) && list_all is_address_byte address
+-- what stands between quotation marks, and what stands behind them and a space
+unfoldable pub quoted_field : List ℕ → Option (List ℕ × List ℕ)
+quoted_field text = do
+  inner ← behind (codes "\"") text
+  parts ← quoted_parts inner
+  rest ← behind (codes " ") parts.1
+  Some (parts.0, rest)
 
-abbrev pub are_uri_parts : Option (List ℕ × List ℕ) → Bool
-are_uri_parts None = false
-are_uri_parts (Some parts) = is_scheme parts.0 && is_address parts.1
+-- a byte may stand between quotation marks, behind a backslash or not
+abbrev pub may_stand : Bool → ℕ → Bool
+may_stand escaped b = if escaped then b == 34 || b == 92 else is_text_byte b && not (b == 34)
 
-unfoldable pub is_uri : List ℕ → Bool
-is_uri uri = nat_le (length uri) 248 && are_uri_parts (cut 58 uri)
+-- a byte before others
+abbrev pub with_byte : ℕ → Option (List ℕ) → Option (List ℕ)
+with_byte b bytes = option_map (λ more. b ∷ more) bytes
+
+-- the bytes without the backslashes that escape
+abbrev pub undone_from : Bool → List ℕ → Option (List ℕ)
+undone_from escaped [] = if escaped then None else Some []
+undone_from escaped (b ∷ rest) =
+    if not escaped && b == 92 then undone_from true rest
+    else if may_stand escaped b then with_byte b (undone_from false rest) else None
+
+-- a text of at most 255 bytes
+unfoldable pub short_text : List ℕ → Option (List ℕ)
+short_text text = if nat_lt 255 (length text) then None else Some text
+
+-- the text that stands between quotation marks
+unfoldable pub text_in : List ℕ → Option (List ℕ)
+text_in bytes = if nat_lt 510 (length bytes) then None else (undone_from false bytes >>= short_text)
 
 -- the last of the five numbers of a start of authority, which end a line
 unfoldable pub minimum_in : List ℕ → Option ℕ
@@ -117,7 +151,7 @@ minimum_in text = do
   number_in 2147483647 expire.1
 
 -- the apex that a start of authority names
-unfoldable pub apex_in : List ℕ → Option (List (List ℕ))
+unfoldable pub apex_in : List ℕ → Option Labels
 apex_in line = do
   field ← cut 32 line
   apex ← name_in field.0
@@ -127,93 +161,135 @@ apex_in line = do
   minimum ← minimum_in timers_text
   Some apex
 
--- the services in their quotation marks, and what stands behind them
-unfoldable pub services_field : List ℕ → Option (List ℕ × List ℕ)
-services_field text = do
-  inner ← behind (codes "\"u\" \"") text
-  services ← cut 34 inner
-  tag ← behind (codes "E2U+") services.0
-  if is_tag tag then Some services else None
-
--- the expression in its quotation marks, and its URI, where the replacement alone stands behind them
-unfoldable pub regexp_in : List ℕ → Option (List ℕ × List ℕ)
-regexp_in text = do
-  inner ← behind (codes " \"") text
-  regexp ← cut 34 inner
-  body ← behind (codes "!^.*$!") regexp.0
-  uri ← cut 33 body
-  if is_uri uri.0 && (length uri.1 == 0) && bytes_eq regexp.1 (codes " .") then Some (regexp.0, uri.0) else None
-
--- a text of at most 255 bytes
-unfoldable pub short_text : List ℕ → Option (List ℕ)
-short_text text = if nat_lt 255 (length text) then None else Some text
-
--- the rule of this owner and these data
-unfoldable pub rule_in : List (List ℕ) → List ℕ → Option PlainRule
-rule_in owner text = do
+-- the rule of these data
+unfoldable pub rule_in : List ℕ → Option Naptr
+rule_in text = do
   order ← number_field 65535 text
   preference ← number_field 65535 order.1
-  services ← services_field preference.1
-  regexp ← regexp_in services.1
-  services_text ← short_text services.0
-  regexp_text ← short_text regexp.0
-  Some (record { owner = owner; rule = record { order = order.0; preference = preference.0; flags = codes "u"; services = services_text; regexp = regexp_text; replacement = [] } })
+  flags ← quoted_field preference.1
+  services ← quoted_field flags.1
+  regexp ← quoted_field services.1
+  flags_text ← text_in flags.0
+  services_text ← text_in services.0
+  regexp_text ← text_in regexp.0
+  replacement ← last_name_in regexp.1
+  Some (record { order = order.0; preference = preference.0; flags = flags_text; services = services_text; regexp = regexp_text; replacement = replacement })
 
 -- a server of the apex
-unfoldable pub server_in : (apex owner : List (List ℕ)) → List ℕ → Option Line
-server_in apex owner text =
-    if are_equal owner apex && is_some (name_in text) then Some Server else None
+unfoldable pub server_in : (apex owner : Labels) → List ℕ → Option Content
+server_in apex owner text = do
+  target ← name_in text
+  if are_alike owner apex then Some (Server target) else None
 
--- a rule of an owner at or below the apex
-unfoldable pub rule_below : (apex owner : List (List ℕ)) → List ℕ → Option Line
+-- an alias at or below the apex
+unfoldable pub alias_in : (apex owner : Labels) → List ℕ → Option Content
+alias_in apex owner text = do
+  target ← name_in text
+  if ends_as owner apex then Some (Alias target) else None
+
+-- a rule at or below the apex
+unfoldable pub rule_below : (apex owner : Labels) → List ℕ → Option Content
 rule_below apex owner text = do
-  data_text ← behind (codes "3600 IN NAPTR ") text
-  found ← rule_in owner data_text
+  found ← rule_in text
   if ends_as owner apex then Some (Rule found) else None
 
--- a server, where its line begins so, else a rule
-abbrev pub server_or_rule : (apex owner : List (List ℕ)) → List ℕ → Option (List ℕ) → Option Line
-server_or_rule apex owner text (Some target) = server_in apex owner target
-server_or_rule apex owner text None = rule_below apex owner text
+-- what a line of this type states of its owner
+unfoldable pub content_in : (apex owner : Labels) → (kind text : List ℕ) → Option Content
+content_in apex owner kind text =
+    if bytes_eq kind (codes "NS") then server_in apex owner text
+    else if bytes_eq kind (codes "CNAME") then alias_in apex owner text
+    else if bytes_eq kind (codes "NAPTR") then rule_below apex owner text
+    else None
+
+-- a line, with its owner folded beside it
+unfoldable pub line_with : Labels → Content → Line
+line_with owner content = record { owner = owner; folded = folded_labels owner; content = content }
 
 -- what a line behind the first states
-unfoldable pub line_in : (apex : List (List ℕ)) → List ℕ → Option Line
+unfoldable pub line_in : (apex : Labels) → List ℕ → Option Line
 line_in apex line = do
   field ← cut 32 line
   owner ← name_in field.0
-  server_or_rule apex owner field.1 (behind (codes "3600 IN NS ") field.1)
+  typed ← behind (codes "3600 IN ") field.1
+  parts ← cut 32 typed
+  content ← content_in apex owner parts.0 parts.1
+  Some (line_with owner content)
 
--- a line is among the first lines of a text, so many at most
-unfoldable pub has_line : ℕ → List ℕ → List ℕ → Bool
-has_line zero line text = false
-has_line (suc more) line text =
-    option_map_or (λ parts. bytes_eq parts.0 line || has_line more line parts.1) (cut 10 text) false
+-- a line before others
+abbrev pub with_line : Line → Option (List Line) → Option (List Line)
+with_line line lines = option_map (λ more. line ∷ more) lines
 
--- a line's rule, if it has one, before others
-abbrev pub with_rule : Line → List PlainRule → List PlainRule
-with_rule Server rules = rules
-with_rule (Rule rule) rules = rule ∷ rules
-
--- the rules of so many lines at most, of which no two are equal
-unfoldable pub rules_in : ℕ → (apex : List (List ℕ)) → List ℕ → Option (List PlainRule)
-rules_in more apex [] = Some []
-rules_in zero apex (byte ∷ bytes) = None
-rules_in (suc more) apex (byte ∷ bytes) = do
+-- the lines behind the first, so many at most
+unfoldable pub lines_in : ℕ → (apex : Labels) → List ℕ → Option (List Line)
+lines_in more apex [] = Some []
+lines_in zero apex (byte ∷ bytes) = None
+lines_in (suc more) apex (byte ∷ bytes) = do
   line ← cut 10 (byte ∷ bytes)
   found ← line_in apex line.0
-  if has_line more line.0 line.1 then None
-      else option_map (with_rule found) (rules_in more apex line.1)
+  with_line found (lines_in more apex line.1)
 
--- the apex and the rules of a text
-unfoldable pub zone_in : List ℕ → Option (List (List ℕ) × List PlainRule)
+-- two rules have the same fields
+abbrev pub are_equal_rules : Naptr → Naptr → Bool
+are_equal_rules one other =
+    one.order == other.order && one.preference == other.preference && bytes_eq one.flags other.flags && bytes_eq one.services other.services && bytes_eq one.regexp other.regexp && are_equal one.replacement other.replacement
+
+-- two lines state the same
+unfoldable pub are_equal_contents : Content → Content → Bool
+are_equal_contents Authority Authority = true
+are_equal_contents (Server one) (Server other) = are_equal one other
+are_equal_contents (Alias one) (Alias other) = are_equal one other
+are_equal_contents (Rule one) (Rule other) = are_equal_rules one other
+are_equal_contents one other = false
+
+abbrev pub is_alias : Content → Bool
+is_alias Authority = false
+is_alias (Server target) = false
+is_alias (Alias target) = true
+is_alias (Rule found) = false
+
+-- two lines have the same owner
+unfoldable pub have_one_owner : Line → Line → Bool
+have_one_owner one other = are_equal one.folded other.folded
+
+-- two lines may stand in one text
+unfoldable pub go_together : Line → Line → Bool
+go_together one other =
+    not (have_one_owner one other) || not (is_alias one.content || is_alias other.content || are_equal_contents one.content other.content)
+
+-- a line goes with those behind it, of which at most 39 have its owner
+unfoldable pub goes_before : Line → List Line → Bool
+goes_before line rest = list_all (go_together line) rest && nat_lt (count_by (have_one_owner line) rest) 40
+
+-- each line goes with those behind it
+unfoldable pub all_go : List Line → Bool
+all_go [] = true
+all_go (line ∷ rest) = goes_before line rest && all_go rest
+
+-- the item of a line
+abbrev pub item_in : Content → PlainItem
+item_in Authority = item.Other
+item_in (Server target) = item.Delegation
+item_in (Alias target) = item.Alias target
+item_in (Rule found) = item.Rule found
+
+-- the owner and the item of a line
+abbrev pub owned_in : Line → PlainOwned
+owned_in line = record { owner = line.owner; item = item_in line.content }
+
+-- the zone of these lines
+abbrev pub zone_with : Labels → List Line → Zone
+zone_with apex lines = record { apex = apex; items = map owned_of (map owned_in lines) }
+
+-- the zone of these lines, where they go together
+abbrev pub if_all_go : Labels → List Line → Option Zone
+if_all_go apex lines = if all_go lines then Some (zone_with apex lines) else None
+
+-- the zone of a text
+unfoldable pub zone_in : List ℕ → Option Zone
 zone_in text =
-    if nat_le (length text) 65536 then (do
+    if nat_le (length text) 262144 then (do
       first ← cut 10 text
       apex ← apex_in first.0
-      if has_line 99 first.0 first.1 then None
-          else option_map (λ rules. (apex, rules)) (rules_in 99 apex first.1))
+      lines ← with_line (line_with apex Authority) (lines_in 999 apex first.1)
+      if_all_go apex lines)
     else None
-
--- the apex and the rules that were read
-abbrev pub parts_of : PlainText → List (List ℕ) × List PlainRule
-parts_of text = (text.apex, text.rules)

@@ -1,27 +1,77 @@
 -- The lines of a printed report (this project's own).
-use Rattle.std.specs.Prelude.{ℕ, ◌+◌, ◌-◌, List, [], ◌∷◌, ◌++◌, length, take, drop, codes, decimal}
+use Rattle.std.specs.Prelude.{ℕ, ◌-◌, ◌==◌, if◌then◌else◌, List, [], ◌∷◌, ◌++◌, length, codes, decimal, flat_map, slice_get, unwrap_or, Option, Some, None}
+use Rattle.dns_name.specs.Name.{folded_labels}
 use Rattle.dns_name.specs.Text.{text_of}
+use Rattle.ddds_walk.specs.declared.lists.End.{End}
+use Rattle.ddds_walk.specs.declared.lists.LoopPath.{LoopPath}
+use Rattle.ddds_walk.specs.declared.lists.Outcome.{Outcome}
+use Rattle.ddds_walk.specs.declared.lists.Outcome.TheVariants.{Uri, Target, Unserved}
+use Rattle.ddds_walk.specs.declared.lists.Report.{Report}
+use Rattle.ddds_walk.specs.declared.lists.Report.TheVariants.{Ends, Loop}
+use Rattle.naptr_data.specs.Zones.{Labels}
 use Rattle.naptr_data.specs.declared.rule.Naptr.{Naptr}
-use Rattle.enum_top.specs.Plain.{Labels}
+use Rattle.enum_top.specs.declared.status.Status.{Status}
+use Rattle.enum_top.specs.declared.status.Status.TheVariants as status
 
--- what the expression `!^.*$!URI!` gives: the URI
-abbrev pub uri_of : Naptr → List ℕ
-uri_of rule = drop 6 (take (length rule.regexp - 1) rule.regexp)
+-- a path: its ranks with dots between, or `-` where it has none
+abbrev pub path_text : List ℕ → List ℕ
+path_text [] = codes "-"
+path_text (first ∷ ranks) = decimal first ++ flat_map (λ rank. codes "." ++ decimal rank) ranks
 
--- the line of an end at a URI: its path, the domain, ORDER, PREFERENCE, the services and the URI
-abbrev pub uri_line : ℕ → Labels → Naptr → List ℕ
-uri_line rank domain edge =
-    codes "uri " ++ decimal rank ++ codes " " ++ text_of domain ++ codes " " ++ decimal edge.order ++ codes " " ++ decimal edge.preference ++ codes " " ++ edge.services ++ codes " " ++ uri_of edge ++ codes "\n"
+-- the first word of an end's line: a URI, a target under the letter `s`, one under another letter, or a domain that nobody serves
+abbrev pub word_of : Outcome → List ℕ
+word_of (Uri bytes) = codes "uri"
+word_of (Target letter name) = if letter == 115 then codes "srv" else codes "addr"
+word_of Unserved = codes "open"
 
--- the lines of edges, of which the first has this rank
-abbrev pub uri_lines : ℕ → Labels → List Naptr → List ℕ
-uri_lines rank domain [] = []
-uri_lines rank domain (edge ∷ edges) = uri_line rank domain edge ++ uri_lines (rank + 1) domain edges
+-- ORDER, PREFERENCE and SERVICES of a rule, where there is one
+abbrev pub rule_text : Option Naptr → List ℕ
+rule_text None = []
+rule_text (Some rule) = codes " " ++ decimal rule.order ++ codes " " ++ decimal rule.preference ++ codes " " ++ rule.services
 
--- the line of an end at a domain that no zone serves, which is reached by no step
-abbrev pub open_line : Labels → List ℕ
-open_line domain = codes "open - " ++ text_of domain ++ codes "\n"
+-- what a rule gives: the URI, or the folded target
+abbrev pub given_text : Outcome → List ℕ
+given_text (Uri bytes) = codes " " ++ bytes
+given_text (Target letter name) = codes " " ++ text_of (folded_labels name)
+given_text Unserved = []
+
+-- the line of an end: the word, its path and its domain, and then what there is of a rule
+abbrev pub end_line : End → List ℕ
+end_line e =
+    word_of e.outcome ++ codes " " ++ path_text e.ranks ++ codes " " ++ text_of e.domain ++ rule_text e.rule ++ given_text e.outcome ++ codes "\n"
+
+-- the last of some domains
+abbrev pub last_domain : List Labels → Labels
+last_domain domains = unwrap_or (slice_get domains (length domains - 1)) []
+
+-- the first line of a loop: its path, and the domain that it comes back to
+abbrev pub loop_line : LoopPath → List ℕ
+loop_line path =
+    codes "loop " ++ path_text path.ranks ++ codes " " ++ text_of (last_domain path.domains) ++ codes "\n"
+
+-- the line of an edge: its rank, and the domains at both ends
+abbrev pub edge_line : ℕ → Labels → Labels → List ℕ
+edge_line rank from to =
+    codes "edge " ++ decimal rank ++ codes " " ++ text_of from ++ codes " " ++ text_of to ++ codes "\n"
+
+-- the lines of edges of these ranks from each domain to the next
+abbrev pub edge_lines : List ℕ → List Labels → List ℕ
+edge_lines [] domains = []
+edge_lines (rank ∷ ranks) [] = []
+edge_lines (rank ∷ ranks) (from ∷ []) = []
+edge_lines (rank ∷ ranks) (from ∷ to ∷ domains) = edge_line rank from to ++ edge_lines ranks (to ∷ domains)
 
 -- the last line: how many ends there are
 abbrev pub last_line : ℕ → List ℕ
 last_line count = codes "end " ++ decimal count ++ codes "\n"
+
+-- a report as it is printed
+abbrev pub printed : Report → List ℕ
+printed (Ends ends) = flat_map end_line ends ++ last_line (length ends)
+printed (Loop path) = loop_line path ++ edge_lines path.ranks path.domains ++ last_line 0
+
+-- the status of a report: whether it is a loop, and whether it has an end
+abbrev pub status_for : Report → Status
+status_for (Ends []) = status.Nothing
+status_for (Ends (e ∷ ends)) = status.Done
+status_for (Loop path) = status.Loop

@@ -1,61 +1,99 @@
 -- How a run comes to its answer, for the functions below `run`.
-use Rattle.std.specs.Prelude.{◌≡◌, ℕ, List, take, Option, Some, None, Result, Ok, Err}
-use Rattle.enum_base.specs.Outside.{File, file_of, with_more}
-use Rattle.enum_top.specs.Answers.{HasReport, HasBadString, LacksFile, HasOtherText, Prints, IsOther, status_for}
+use Rattle.std.specs.Prelude.{◌≡◌, ◌⊎◌, ℕ, List, ◌∷◌, ◌++◌, [], take, Option, Result, Ok, Err}
+use Rattle.enum_app.specs.Number.{digits_of}
+use Rattle.enum_base.specs.Outside.{File, with_more}
+use Rattle.ddds_walk.specs.declared.lists.Report.{Report}
+use Rattle.naptr_data.specs.Zones.{Zone}
+use Rattle.service_field.specs.Wanted.{wanted_text}
+use Rattle.enum_top.specs.Answers.{Lacks, MeetsOther, Reports}
+use Rattle.enum_top.specs.Asked.{Asked, AsksFor, IsWellFormed, BreaksString, BreaksWant, BreaksApex, BreaksKey, key_under}
 use Rattle.enum_top.specs.FaultLines.{line_of, status_of}
-use Rattle.enum_top.specs.Number.{IsNumber}
-use Rattle.enum_top.specs.Plain.{Labels, IsPlainText}
-use Rattle.enum_top.specs.Report.{printed, count_of}
-use Rattle.enum_top.specs.Words.{AsksFor, IsRequest}
+use Rattle.enum_top.specs.Files.{IsZoneOf, HasApex, Tell, StopsAt, IsAbsent, IsOther}
+use Rattle.enum_top.specs.Printing.{printed, status_for}
+use Rattle.enum_top.specs.Words.{IsRequest}
 use Rattle.enum_top.specs.Writing.{Takes, WhereTold}
-use Rattle.enum_top.specs.declared.plain.PlainRule.{PlainRule}
-use Rattle.enum_top.specs.declared.printed.Printed.{Printed}
+use Rattle.enum_top.specs.declared.question.Question.{Question}
 use Rattle.enum_top.specs.declared.refusal.Refusal.{Refusal}
-use Rattle.enum_top.specs.declared.refusal.Refusal.TheVariants.{Usage, IllFormed, Absent, Unbuilt, Outside, Memory}
-use Rattle.enum_top.specs.declared.report.Report.{Report}
+use Rattle.enum_top.specs.declared.refusal.Refusal.TheVariants.{Usage, BadString, BadWant, BadApex, BadKey, Absent, Unbuilt, Outside, Memory}
 use Rattle.enum_top.specs.declared.status.Object.TheVariants.{Shelf, Output}
 use Rattle.enum_top.specs.declared.status.Status.{Status}
+use Rattle.enum_top.specs.declared.told.ToldZones.{ToldZones}
 
--- a file of this name is there
-abbrev pub IsThere : List ℕ → List File → Type 0
-IsThere file files = (bytes : List ℕ) × (file_of files file ≡ Some bytes)
+-- a question holds what is asked
+pub record IsQuestion (asked : Asked) (question : Question) : Type 0 where
+  pub well : IsWellFormed asked
+  pub number : question.number ≡ digits_of asked.string
+  pub wanted : wanted_text question.wanted ≡ asked.want
+  pub key : question.key ≡ key_under asked well.apex
 
--- what stops or ends the work on one file, where files are told
-abbrev pub Resolves : (digits file : List ℕ) → Option (List File) → Result Printed Refusal → Type 0
-Resolves digits file told (Ok p) =
-    WhereTold told (λ files. (bytes : List ℕ) × (file_of files file ≡ Some bytes) × Prints digits bytes p.text p.count)
-Resolves digits file told (Err Usage) = ⊥
-Resolves digits file told (Err (IllFormed fault)) = ⊥
-Resolves digits file told (Err (Absent name)) = (name.now ≡ file) × WhereTold told (λ files. file_of files file ≡ None)
-Resolves digits file told (Err Unbuilt) = WhereTold told (λ files. IsOther file files)
-Resolves digits file told (Err (Outside Shelf)) = Unit {0}
-Resolves digits file told (Err (Outside Output)) = ⊥
-Resolves digits file told (Err Memory) = WhereTold told (IsThere file)
+-- the question of what is asked, or the first that is ill-formed
+abbrev pub Questions : Asked → Result Question Refusal → Type 0
+Questions asked (Ok question) = IsQuestion asked question
+Questions asked (Err (BadString fault)) = BreaksString asked fault
+Questions asked (Err (BadWant fault)) = BreaksWant asked fault
+Questions asked (Err (BadApex fault)) = BreaksApex asked fault
+Questions asked (Err BadKey) = BreaksKey asked
+Questions asked (Err Usage) = ⊥
+Questions asked (Err (Absent name)) = ⊥
+Questions asked (Err Unbuilt) = ⊥
+Questions asked (Err (Outside object)) = ⊥
+Questions asked (Err Memory) = ⊥
 
--- the words ask for a number over a file of this name
-pub record IsAsked (words : List (List ℕ)) : Type 0 where
-  pub string : List ℕ
-  pub file : List ℕ
-  pub asks : AsksFor words string file
-  pub number : IsNumber string
+-- the zone of one more file, behind others
+pub record IsAdded (files : List File) (name : List ℕ) (zones : List Zone) (zone : Zone) : Type 0 where
+  pub is : IsZoneOf files name zone
+  pub apart : ¬ HasApex zones zone.apex
 
--- .. and that file is there
-pub record IsAskedOfFile (words : List (List ℕ)) (files : List File) : Type 0 where
-  pub asked : IsAsked words
-  pub there : IsThere asked.file files
+-- one more file is added, or stops the work
+abbrev pub Adds : {A : Type 0} → Option (List File) → (name : List ℕ) → (zones zones' : List Zone) → Result A Refusal → Type 0
+Adds told name zones zones' (Ok done) =
+    (zone : Zone) × (zones' ≡ zones ++ zone ∷ []) × WhereTold told (λ files. IsAdded files name zones zone)
+Adds told name zones zones' (Err (Absent absent)) = (absent.now ≡ name) × WhereTold told (λ files. IsAbsent files name zones)
+Adds told name zones zones' (Err Unbuilt) = WhereTold told (λ files. IsOther files name zones)
+Adds told name zones zones' (Err (Outside Shelf)) = Unit {0}
+Adds told name zones zones' (Err Memory) = Unit {0}
+Adds told name zones zones' (Err (Outside Output)) = ⊥
+Adds told name zones zones' (Err Usage) = ⊥
+Adds told name zones zones' (Err (BadString fault)) = ⊥
+Adds told name zones zones' (Err (BadWant fault)) = ⊥
+Adds told name zones zones' (Err (BadApex fault)) = ⊥
+Adds told name zones zones' (Err BadKey) = ⊥
 
--- what a run does, and what its output holds then, where files are told
-abbrev pub Gives : (words : List (List ℕ)) → Option (List File) → (held held' : Option (List ℕ)) → Result Status Refusal → Type 0
-Gives words told held held' (Ok status) =
-    IsAsked words × (n : ℕ) × (status ≡ status_for n) × WhereTold told (λ files. (report : Report) × HasReport words files report × (n ≡ count_of report) × (held' ≡ with_more held (printed report)))
-Gives words told held held' (Err Usage) = (¬ IsRequest words) × (held' ≡ held)
-Gives words told held held' (Err (IllFormed fault)) = HasBadString words fault × (held' ≡ held)
-Gives words told held held' (Err (Absent name)) = IsAsked words × WhereTold told (λ files. LacksFile words files name.now) × (held' ≡ held)
-Gives words told held held' (Err Unbuilt) = IsAsked words × WhereTold told (HasOtherText words) × (held' ≡ held)
-Gives words told held held' (Err (Outside Shelf)) = IsAsked words × (held' ≡ held)
-Gives words told held held' (Err (Outside Output)) =
-    IsAsked words × WhereTold told (λ files. (report : Report) × HasReport words files report × ((n : ℕ) × (held' ≡ with_more held (take n (printed report)))))
-Gives words told held held' (Err Memory) = IsAsked words × WhereTold told (IsAskedOfFile words) × (held' ≡ held)
+-- the zones of all files, or what stops the work
+abbrev pub TellsZones : Option (List File) → List (List ℕ) → Result ToldZones Refusal → Type 0
+TellsZones told names (Ok t) = WhereTold told (λ files. Tell files names t.zones)
+TellsZones told names (Err (Absent name)) = WhereTold told (λ files. StopsAt files names name.now (IsAbsent files name.now))
+TellsZones told names (Err Unbuilt) = WhereTold told (λ files. (name : List ℕ) × StopsAt files names name (IsOther files name))
+TellsZones told names (Err (Outside Shelf)) = Unit {0}
+TellsZones told names (Err Memory) = Unit {0}
+TellsZones told names (Err (Outside Output)) = ⊥
+TellsZones told names (Err Usage) = ⊥
+TellsZones told names (Err (BadString fault)) = ⊥
+TellsZones told names (Err (BadWant fault)) = ⊥
+TellsZones told names (Err (BadApex fault)) = ⊥
+TellsZones told names (Err BadKey) = ⊥
+
+-- what a run over a request does, and what its output holds then
+abbrev pub Resolves : Asked → Option (List File) → (held held' : Option (List ℕ)) → Result Status Refusal → Type 0
+Resolves asked told held held' (Ok status) =
+    IsWellFormed asked × ((report : Report) × (status ≡ status_for report) × (held' ≡ with_more held (printed report)) × WhereTold told (λ files. Reports files report asked))
+Resolves asked told held held' (Err Usage) = ⊥
+Resolves asked told held held' (Err (BadString fault)) = BreaksString asked fault × (held' ≡ held)
+Resolves asked told held held' (Err (BadWant fault)) = BreaksWant asked fault × (held' ≡ held)
+Resolves asked told held held' (Err (BadApex fault)) = BreaksApex asked fault × (held' ≡ held)
+Resolves asked told held held' (Err BadKey) = BreaksKey asked × (held' ≡ held)
+Resolves asked told held held' (Err (Absent name)) =
+    IsWellFormed asked × WhereTold told (λ files. Lacks files name.now asked) × (held' ≡ held)
+Resolves asked told held held' (Err Unbuilt) = IsWellFormed asked × WhereTold told (λ files. MeetsOther files asked) × (held' ≡ held)
+Resolves asked told held held' (Err (Outside Shelf)) = IsWellFormed asked × (held' ≡ held)
+Resolves asked told held held' (Err (Outside Output)) =
+    IsWellFormed asked × ((report : Report) × WhereTold told (λ files. Reports files report asked) × ((n : ℕ) × (held' ≡ with_more held (take n (printed report)))))
+Resolves asked told held held' (Err Memory) = IsWellFormed asked × (held' ≡ held)
+
+-- the words are no request, or a request that is run so
+abbrev pub Gives : List (List ℕ) → Option (List File) → (held held' : Option (List ℕ)) → Result Status Refusal → Type 0
+Gives words told held held' result =
+    ((result ≡ Err Usage) × (¬ IsRequest words) × (held' ≡ held)) ⊎ ((asked : Asked) × AsksFor words asked × Resolves asked told held held' result)
 
 -- the status of a run
 abbrev pub ended_as : Result Status Refusal → Status

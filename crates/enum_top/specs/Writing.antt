@@ -21,4 +21,4 @@ IsLeft (Some left) bytes = bytes ≡ left
 -- more bytes are left than a file may have, where they are told
 abbrev pub IsLongLeft : Option (List ℕ) → Type 0
 IsLongLeft None = ⊤
-IsLongLeft (Some left) = 65536 < length left
+IsLongLeft (Some left) = 262144 < length left

@@ -9,7 +9,7 @@ use enum_base::{Bytes, Shelf};
 use std::alloc::Global;
 
 /// The most bytes of a file that is read.
-pub const MOST_BYTES: usize = 65_536;
+pub const MOST_BYTES: usize = 262_144;
 
 /// Why a file is not read.
 #[derive(Clone, Copy, Debug, PartialEq, Eq)]
@@ -32,7 +32,7 @@ pub fn load<S: Shelf>(alloc: Global, name: &str, shelf: &mut S) -> Result<Bytes,
         → WhereTold (S.files shelf.old) (λ files. file_of files name.now ≡ None) }
     ensures large { IsErrOf result TooLarge
         → WhereTold (S.files shelf.old)
-        (λ files. (bytes : List ℕ) × (file_of files name.now ≡ Some bytes) × (65536 < length bytes)) }
+        (λ files. (bytes : List ℕ) × (file_of files name.now ≡ Some bytes) × (262144 < length bytes)) }
     ensures memory { IsErrOf result Memory
         → WhereTold (S.files shelf.old) (λ files. (bytes : List ℕ) × (file_of files name.now ≡ Some bytes)) }
     ensures shelf { Blames (S.faults shelf.old) (S.faults shelf.new) (IsErrOf result Failed) }

@@ -7,60 +7,74 @@ use naptr_data::Naptr;
 use std::alloc::Global;
 use std::marker::Model;
 
-/// A rule and the domain at which it stands.
+/// What stands at an owner of a plain text.
 #[derive(Clone, Copy, Debug)]
-pub struct PlainRule {
+pub enum PlainItem {
+    /// A NAPTR rule.
+    Rule(Naptr),
+    /// A CNAME, with the name that it stands for.
+    Alias(Name),
+    /// An NS record.
+    Delegation,
+    /// Another record.
+    Other,
+}
+
+/// An owner and what stands there.
+#[derive(Clone, Copy, Debug)]
+pub struct PlainOwned {
     pub owner: Name,
-    pub rule: Naptr,
+    pub item: PlainItem,
 }
 
-/// Rules in the order of their lines.
+/// Items in the order of their lines.
 #[derive(Drop)]
-pub struct PlainRules {
-    items: Vec<PlainRule>,
+pub struct PlainItems {
+    items: Vec<PlainOwned>,
 }
 
-impl Model for PlainRules {
+impl Model for PlainItems {
     ghost use Rattle.std.specs.Prelude.{List};
-    ghost use Rattle.enum_top.specs.declared.plain.PlainRule.{PlainRule};
+    ghost use Rattle.enum_top.specs.declared.plain.PlainOwned.{PlainOwned};
 
-    ghost Value = { List PlainRule };
+    ghost Value = { List PlainOwned };
 
-    ghost view = { λ rules. rules.items.items };
+    ghost view = { λ list. list.items.items };
 }
 
-impl PlainRules {
-    /// No rules; this takes no memory.
+impl PlainItems {
+    /// No items; this takes no memory.
     pub fn new(alloc: Global) -> Self
         ensures { result ≡ [] }
     {
-        PlainRules {
+        PlainItems {
             items: Vec::new(alloc),
         }
     }
 
-    /// The rules.
-    pub fn as_slice(&self) -> &[PlainRule]
+    /// The items.
+    pub fn as_slice(&self) -> &[PlainOwned]
         ensures { result.now ≡ self.now }
     {
         self.items.as_slice()
     }
 
-    /// Appends a rule.
-    pub fn push(&mut self, rule: PlainRule) -> Result<(), MemoryFault>
-        ensures ok { OnOk result (self.new ≡ self.old ++ rule ∷ []) }
+    /// Appends an item.
+    pub fn push(&mut self, item: PlainOwned) -> Result<(), MemoryFault>
+        ensures ok { OnOk result (self.new ≡ self.old ++ item ∷ []) }
         ensures err { OnErr result (self.new ≡ self.old) }
     {
-        match self.items.push(rule) {
+        let PlainOwned { owner, item } = item;
+        match self.items.push(PlainOwned { owner, item }) {
             Ok(()) => Ok(()),
             Err(_) => Err(MemoryFault),
         }
     }
 }
 
-/// The zone of a plain text: its apex and its rules.
+/// The zone of a plain text.
 #[derive(Drop)]
-pub struct PlainText {
+pub struct PlainZone {
     pub apex: Name,
-    pub rules: PlainRules,
+    pub items: PlainItems,
 }

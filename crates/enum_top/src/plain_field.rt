@@ -1,11 +1,11 @@
 //! The fields of a line of a plain zone text.
 ghost use Rattle.std.specs.Prelude.{◌≡◌, ◌==◌, ◌↔◌, ◌<◌, ◌≤◌, position, length, Some, None, MatchOption, IfSome, List, ℕ, IsTrue};
 ghost use Rattle.std.specs.List.{list_all};
-ghost use Rattle.enum_top.specs.Plain.{is_plain_byte, is_scheme_byte, is_address_byte};
-ghost use Rattle.enum_top.specs.PlainReading.{cut, behind, number_in, number_field, is_name_byte, name_in, behind_name, is_tag, is_scheme, is_address, is_uri, short_text, are_equal, ends_as};
+ghost use Rattle.enum_top.specs.Plain.{is_plain_byte};
+ghost use Rattle.enum_top.specs.PlainReading.{cut, behind, number_in, number_field, is_name_byte, name_in, last_name_in, behind_name, are_equal, are_alike, ends_as};
 
 use dns_name::Name;
-use enum_base::{Text255, read_u32};
+use enum_base::read_u32;
 use itoa::Buffer;
 
 // The place of the first such byte.
@@ -64,83 +64,7 @@ pub fn number_field(most: u32, text: &[u8]) -> Option<(u32, &[u8])>
 fn is_plain_byte(byte: u8) -> bool
     ensures { result ≡ is_plain_byte byte }
 {
-    matches!(byte, b'a'..=b'z' | b'0'..=b'9' | b'-')
-}
-
-fn is_scheme_byte(byte: u8) -> bool
-    ensures { result ≡ is_scheme_byte byte }
-{
-    matches!(byte, b'a'..=b'z' | b'0'..=b'9')
-}
-
-fn is_address_byte(byte: u8) -> bool
-    ensures { result ≡ is_address_byte byte }
-{
-    matches!(
-        byte,
-        b'a'..=b'z' | b'A'..=b'Z' | b'0'..=b'9' | b'@' | b'.' | b':' | b'/' | b'-' | b'_'
-    )
-}
-
-fn are_plain_bytes(text: &[u8]) -> bool
-    ensures { result ≡ list_all is_plain_byte text.now }
-{
-    text.iter().all(|b| is_plain_byte(*b))
-}
-
-fn are_scheme_bytes(text: &[u8]) -> bool
-    ensures { result ≡ list_all is_scheme_byte text.now }
-{
-    text.iter().all(|b| is_scheme_byte(*b))
-}
-
-fn are_address_bytes(text: &[u8]) -> bool
-    ensures { result ≡ list_all is_address_byte text.now }
-{
-    text.iter().all(|b| is_address_byte(*b))
-}
-
-// 1 to 32 small letters, digits or hyphens.
-#[tactic(auto, unfolding(crate::specs::PlainReading::is_tag))]
-pub fn is_tag(text: &[u8]) -> bool
-    ensures { result ≡ is_tag text.now }
-{
-    !text.is_empty() && text.len() <= 32 && are_plain_bytes(text)
-}
-
-fn is_scheme(text: &[u8]) -> bool
-    ensures { result ≡ is_scheme text.now }
-{
-    match text {
-        [] => false,
-        [first, rest @ ..] => { first.is_ascii_lowercase() && are_scheme_bytes(rest) }
-    }
-}
-
-fn is_address(text: &[u8]) -> bool
-    ensures { result ≡ is_address text.now }
-{
-    !text.is_empty() && are_address_bytes(text)
-}
-
-// A scheme, a colon and an address, of at most 248 bytes.
-#[tactic(auto, unfolding(crate::specs::PlainReading::is_uri))]
-pub fn is_uri(text: &[u8]) -> bool
-    ensures { result ≡ is_uri text.now }
-{
-    text.len() <= 248
-        && match split_at_byte(text, b':') {
-            Some((scheme, address)) => is_scheme(scheme) && is_address(address),
-            None => false,
-        }
-}
-
-// A text of at most 255 bytes.
-#[tactic(auto, unfolding(crate::specs::PlainReading::short_text))]
-pub fn short_text(text: &[u8]) -> Option<Text255>
-    ensures { result ≡ short_text text.now }
-{
-    Text255::from_bytes(text)
+    matches!(byte, b'a'..=b'z' | b'A'..=b'Z' | b'0'..=b'9' | b'-' | b'_')
 }
 
 // Whether each byte is a dot or may stand in a label.
@@ -150,7 +74,7 @@ fn are_name_bytes(text: &[u8]) -> bool
     text.iter().all(|b| *b == b'.' || is_plain_byte(*b))
 }
 
-// A name of one or more labels of small letters, digits or hyphens, each with a dot behind it.
+// A name of one or more labels of letters, digits, hyphens or underscores, each with a dot behind it.
 pub fn read_name(text: &[u8]) -> Option<Name>
     ensures { result ≡ name_in text.now }
 {
@@ -161,6 +85,18 @@ pub fn read_name(text: &[u8]) -> Option<Name>
         return None;
     }
     Name::from_text(text, None).ok()
+}
+
+// The root, or such a name.
+#[tactic(auto, unfolding(crate::specs::PlainReading::last_name_in))]
+pub fn read_last_name(text: &[u8]) -> Option<Name>
+    ensures { result ≡ last_name_in text.now }
+{
+    if text == b".".as_slice() {
+        Some(Name::root())
+    } else {
+        read_name(text)
+    }
 }
 
 // What stands behind a plain name and a space.
@@ -186,6 +122,13 @@ pub fn are_equal(one: Name, other: Name) -> bool
     ensures { result ≡ are_equal one other }
 {
     is_same(one, other)
+}
+
+// Whether two names are equal but for the case of letters.
+pub fn are_alike(one: Name, other: Name) -> bool
+    ensures { result ≡ are_alike one other }
+{
+    one.same(&other)
 }
 
 // Whether a name is at or below another.

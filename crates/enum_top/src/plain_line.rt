@@ -1,23 +1,34 @@
 //! The lines of a plain zone text.
 ghost use Rattle.std.specs.Prelude.{◌≡◌, ◌≤◌, Some, None, MatchOption, IfSome};
-ghost use Rattle.enum_top.specs.PlainReading.{minimum_in, apex_in, services_field, regexp_in, rule_in, server_in, rule_below, line_in};
+ghost use Rattle.enum_top.specs.PlainReading.{minimum_in, apex_in, rule_in, server_in, alias_in, rule_below, content_in, line_with, line_in};
 
-use crate::plain::PlainRule;
 use crate::plain_field::{
-    are_equal, behind, behind_name, is_below, is_tag, is_uri, number_field, read_name, read_number,
-    short_text, split_at_byte,
+    are_alike, behind, behind_name, is_below, number_field, read_last_name, read_name, read_number,
+    split_at_byte,
 };
+use crate::plain_quoted::{quoted_field, read_text};
 use dns_name::Name;
-use enum_base::Text255;
 use naptr_data::Naptr;
 
-/// What a line behind the first states.
-#[derive(Clone, Copy, Debug)]
-pub enum Line {
+/// What a line states of its owner.
+#[derive(Clone, Copy, Debug, PartialEq, Eq)]
+pub enum Content {
+    /// It is the apex.
+    Authority,
     /// A server of the zone.
-    Server,
-    /// A rule at or below the apex.
-    Rule(PlainRule),
+    Server(Name),
+    /// The name that it stands for.
+    Alias(Name),
+    /// A rule.
+    Rule(Naptr),
+}
+
+/// A line, with its owner folded beside it.
+#[derive(Clone, Copy, Debug)]
+pub struct Line {
+    pub owner: Name,
+    pub folded: Name,
+    pub content: Content,
 }
 
 // The greatest number of a start of authority.
@@ -25,6 +36,20 @@ const TIMER_MOST: u32 = 2_147_483_647;
 
 // The greatest order and preference of a rule.
 const RANK_MOST: u32 = 65_535;
+
+impl Line {
+    // The line of this owner and content.
+    #[tactic(auto, unfolding(crate::specs::PlainReading::line_with))]
+    pub fn new(owner: Name, content: Content) -> Line
+        ensures { result ≡ line_with owner content }
+    {
+        Line {
+            owner,
+            folded: owner.fold(),
+            content,
+        }
+    }
+}
 
 // The last of five numbers that end a line.
 #[tactic(auto, unfolding(crate::specs::PlainReading::minimum_in))]
@@ -52,80 +77,76 @@ pub fn read_authority(line: &[u8]) -> Option<Name>
     Some(apex)
 }
 
-// The services in their quotation marks, and what stands behind them.
-#[tactic(auto, unfolding(crate::specs::PlainReading::services_field))]
-fn services_field(text: &[u8]) -> Option<(&[u8], &[u8])>
-    ensures { MatchOption result (services_field text.now ≡ None)
-        (λ field. services_field text.now ≡ Some (field.0.now, field.1.now)) }
-{
-    let text = behind(text, b"\"u\" \"")?;
-    let (services, text) = split_at_byte(text, b'"')?;
-    let tag = behind(services, b"E2U+")?;
-    if is_tag(tag) {
-        Some((services, text))
-    } else {
-        None
-    }
-}
-
-// The expression in its quotation marks, and its URI, where the replacement alone stands behind them.
-#[tactic(auto, unfolding(crate::specs::PlainReading::regexp_in))]
-fn read_regexp(text: &[u8]) -> Option<(&[u8], &[u8])>
-    ensures { MatchOption result (regexp_in text.now ≡ None)
-        (λ parts. regexp_in text.now ≡ Some (parts.0.now, parts.1.now)) }
-{
-    let text = behind(text, b" \"")?;
-    let (regexp, text) = split_at_byte(text, b'"')?;
-    let body = behind(regexp, b"!^.*$!")?;
-    let (uri, rest) = split_at_byte(body, b'!')?;
-    if is_uri(uri) && rest.is_empty() && text == b" .".as_slice() {
-        Some((regexp, uri))
-    } else {
-        None
-    }
-}
-
-// The rule of this owner and these data.
+// The rule of these data.
 #[tactic(auto, unfolding(crate::specs::PlainReading::rule_in))]
-fn read_rule(owner: Name, text: &[u8]) -> Option<PlainRule>
-    ensures { result ≡ rule_in owner text.now }
+fn read_rule(text: &[u8]) -> Option<Naptr>
+    ensures { result ≡ rule_in text.now }
 {
     let (order, text) = number_field(RANK_MOST, text)?;
     let (preference, text) = number_field(RANK_MOST, text)?;
-    let (services, text) = services_field(text)?;
-    let (regexp, _uri) = read_regexp(text)?;
-    let rule = Naptr {
+    let (flags, text) = quoted_field(text)?;
+    let (services, text) = quoted_field(text)?;
+    let (regexp, text) = quoted_field(text)?;
+    Some(Naptr {
         order: order as u16,
         preference: preference as u16,
-        flags: Text255::from_bytes(b"u")?,
-        services: short_text(services)?,
-        regexp: short_text(regexp)?,
-        replacement: Name::root(),
-    };
-    Some(PlainRule { owner, rule })
+        flags: read_text(flags)?,
+        services: read_text(services)?,
+        regexp: read_text(regexp)?,
+        replacement: read_last_name(text)?,
+    })
 }
 
 // A server of the apex.
 #[tactic(auto, unfolding(crate::specs::PlainReading::server_in))]
-fn read_server(apex: Name, owner: Name, text: &[u8]) -> Option<Line>
+fn read_server(apex: Name, owner: Name, text: &[u8]) -> Option<Content>
     ensures { result ≡ server_in apex owner text.now }
 {
-    if are_equal(owner, apex) && read_name(text).is_some() {
-        Some(Line::Server)
+    let target = read_name(text)?;
+    if are_alike(owner, apex) {
+        Some(Content::Server(target))
     } else {
         None
     }
 }
 
-// A rule of an owner at or below the apex.
+// An alias at or below the apex.
+#[tactic(auto, unfolding(crate::specs::PlainReading::alias_in))]
+fn read_alias(apex: Name, owner: Name, text: &[u8]) -> Option<Content>
+    ensures { result ≡ alias_in apex owner text.now }
+{
+    let target = read_name(text)?;
+    if is_below(owner, apex) {
+        Some(Content::Alias(target))
+    } else {
+        None
+    }
+}
+
+// A rule at or below the apex.
 #[tactic(auto, unfolding(crate::specs::PlainReading::rule_below))]
-fn read_rule_below(apex: Name, owner: Name, text: &[u8]) -> Option<Line>
+fn read_rule_below(apex: Name, owner: Name, text: &[u8]) -> Option<Content>
     ensures { result ≡ rule_below apex owner text.now }
 {
-    let text = behind(text, b"3600 IN NAPTR ")?;
-    let rule = read_rule(owner, text)?;
+    let rule = read_rule(text)?;
     if is_below(owner, apex) {
-        Some(Line::Rule(rule))
+        Some(Content::Rule(rule))
+    } else {
+        None
+    }
+}
+
+// What a line of this type states of its owner.
+#[tactic(auto, unfolding(crate::specs::PlainReading::content_in))]
+fn read_content(apex: Name, owner: Name, kind: &[u8], text: &[u8]) -> Option<Content>
+    ensures { result ≡ content_in apex owner kind.now text.now }
+{
+    if kind == b"NS".as_slice() {
+        read_server(apex, owner, text)
+    } else if kind == b"CNAME".as_slice() {
+        read_alias(apex, owner, text)
+    } else if kind == b"NAPTR".as_slice() {
+        read_rule_below(apex, owner, text)
     } else {
         None
     }
@@ -138,8 +159,8 @@ pub fn read_line(apex: Name, line: &[u8]) -> Option<Line>
 {
     let (owner, text) = split_at_byte(line, b' ')?;
     let owner = read_name(owner)?;
-    match behind(text, b"3600 IN NS ") {
-        Some(target) => read_server(apex, owner, target),
-        None => read_rule_below(apex, owner, text),
-    }
+    let text = behind(text, b"3600 IN ")?;
+    let (kind, text) = split_at_byte(text, b' ')?;
+    let content = read_content(apex, owner, kind, text)?;
+    Some(Line::new(owner, content))
 }

@@ -3,13 +3,15 @@ ghost use Rattle.std.specs.Prelude.{◌≡◌, ◌++◌, codes, decimal, OnOk};
 ghost use Rattle.enum_base.specs.Causes.{HasCause};
 ghost use Rattle.enum_base.specs.Outside.{with_more};
 ghost use Rattle.enum_top.specs.Writing.{Takes};
-ghost use Rattle.enum_top.specs.FaultLines.{line_of, string_line, outside_line, status_of};
+ghost use Rattle.enum_top.specs.FaultLines.{fault_at, string_fault, service_fault, name_fault, line_of, string_line, want_line, apex_line, outside_line, status_of};
 
-use crate::number::NumberFault;
 use crate::status::{Object, Status};
-use crate::write::{write_three, write_whole};
+use crate::write::{write_three, write_two, write_whole};
+use dns_name::NameFault;
+use enum_app::NumberFault;
 use enum_base::{Failed, Sink};
 use itoa::Buffer;
+use service_field::ServiceFault;
 
 /// Why a run ends without a report.
 #[derive(Clone, Copy, Debug)]
@@ -17,10 +19,16 @@ pub enum Refusal<'a> {
     /// The words are no request.
     Usage,
     /// The string is no number.
-    IllFormed(NumberFault),
+    BadString(NumberFault),
+    /// The wanted list is ill-formed.
+    BadWant(ServiceFault),
+    /// The apex is no name.
+    BadApex(NameFault),
+    /// The domain of the number is too long.
+    BadKey,
     /// There is no file of this name.
     Absent(&'a str),
-    /// The file is no plain text.
+    /// A file is no plain text, or its apex is that of an earlier one.
     Unbuilt,
     /// A call of this object failed.
     Outside(Object),
@@ -34,7 +42,11 @@ impl Refusal<'_> {
     {
         match self {
             Refusal::Usage => Status::Usage,
-            Refusal::IllFormed(_) | Refusal::Absent(_) => Status::IllFormed,
+            Refusal::BadString(_)
+            | Refusal::BadWant(_)
+            | Refusal::BadApex(_)
+            | Refusal::BadKey
+            | Refusal::Absent(_) => Status::IllFormed,
             Refusal::Unbuilt => Status::Unbuilt,
             Refusal::Outside(object) => Status::Outside(*object),
             Refusal::Memory => Status::Memory,
@@ -48,7 +60,10 @@ impl Refusal<'_> {
     {
         match self {
             Refusal::Usage => write_whole(err, b"enumd: usage\n"),
-            Refusal::IllFormed(fault) => tell_string(err, fault),
+            Refusal::BadString(fault) => tell_string(err, fault),
+            Refusal::BadWant(fault) => tell_want(err, fault),
+            Refusal::BadApex(fault) => tell_apex(err, fault),
+            Refusal::BadKey => write_whole(err, b"enumd: ill-formed key NameTooLong\n"),
             Refusal::Absent(name) => {
                 write_three(err, b"enumd: ill-formed file ", name.as_bytes(), b"\n")
             }
@@ -72,18 +87,83 @@ fn tell_string<E: Sink>(err: &mut E, fault: &NumberFault) -> Result<(), Failed>
     ensures takes { Takes (E.held err.old) (E.held err.new) (E.faults err.old) (E.faults err.new) (string_line fault.now) }
     ensures cause { HasCause (E.faults err.old) (E.faults err.new) result }
 {
+    let (name, place) = string_fault(fault);
+    tell_fault(err, b"enumd: ill-formed string ", name, place)
+}
+
+fn tell_want<E: Sink>(err: &mut E, fault: &ServiceFault) -> Result<(), Failed>
+    ensures takes { Takes (E.held err.old) (E.held err.new) (E.faults err.old) (E.faults err.new) (want_line fault.now) }
+    ensures cause { HasCause (E.faults err.old) (E.faults err.new) result }
+{
+    let (name, place) = service_fault(fault);
+    tell_fault(err, b"enumd: ill-formed want ", name, place)
+}
+
+fn tell_apex<E: Sink>(err: &mut E, fault: &NameFault) -> Result<(), Failed>
+    ensures takes { Takes (E.held err.old) (E.held err.new) (E.faults err.old) (E.faults err.new) (apex_line fault.now) }
+    ensures cause { HasCause (E.faults err.old) (E.faults err.new) result }
+{
+    let (name, place) = name_fault(fault);
+    tell_fault(err, b"enumd: ill-formed apex ", name, place)
+}
+
+// The name of a fault, and its place where it has one.
+fn string_fault(fault: &NumberFault) -> (&'static [u8], Option<usize>)
+    ensures { fault_at result.0.now result.1 ≡ string_fault fault.now }
+{
     match fault {
-        NumberFault::NoPlus => write_whole(err, b"enumd: ill-formed string NoPlus\n"),
-        NumberFault::NoDigit => write_whole(err, b"enumd: ill-formed string NoDigit\n"),
-        NumberFault::TooLong { at } => tell_place(err, b"enumd: ill-formed string TooLong ", *at),
-        NumberFault::BadChar { at } => tell_place(err, b"enumd: ill-formed string BadChar ", *at),
+        NumberFault::NoPlus => (b"NoPlus", None),
+        NumberFault::NoDigit => (b"NoDigit", None),
+        NumberFault::TooLong { at } => (b"TooLong", Some(*at)),
+        NumberFault::BadChar { at } => (b"BadChar", Some(*at)),
     }
 }
 
-fn tell_place<E: Sink>(err: &mut E, front: &[u8], at: usize) -> Result<(), Failed>
-    ensures takes { Takes (E.held err.old) (E.held err.new) (E.faults err.old) (E.faults err.new) (front.now ++ decimal at ++ codes "\n") }
+fn service_fault(fault: &ServiceFault) -> (&'static [u8], Option<usize>)
+    ensures { fault_at result.0.now result.1 ≡ service_fault fault.now }
+{
+    match fault {
+        ServiceFault::Empty => (b"Empty", None),
+        ServiceFault::NoE2u => (b"NoE2u", None),
+        ServiceFault::BadTag { at } => (b"BadTag", Some(*at)),
+        ServiceFault::TagTooLong { at } => (b"TagTooLong", Some(*at)),
+        ServiceFault::Trailing { at } => (b"Trailing", Some(*at)),
+    }
+}
+
+fn name_fault(fault: &NameFault) -> (&'static [u8], Option<usize>)
+    ensures { fault_at result.0.now result.1 ≡ name_fault fault.now }
+{
+    match fault {
+        NameFault::EmptyLabel { at } => (b"EmptyLabel", Some(*at)),
+        NameFault::LabelTooLong { at } => (b"LabelTooLong", Some(*at)),
+        NameFault::NameTooLong => (b"NameTooLong", None),
+        NameFault::BadEscape { at } => (b"BadEscape", Some(*at)),
+        NameFault::NoOrigin => (b"NoOrigin", None),
+    }
+}
+
+// A line with a fault by its name and its place.
+fn tell_fault<E: Sink>(
+    err: &mut E,
+    front: &[u8],
+    name: &[u8],
+    place: Option<usize>,
+) -> Result<(), Failed>
+    ensures takes { Takes (E.held err.old) (E.held err.new) (E.faults err.old) (E.faults err.new) (front.now ++ fault_at name.now place ++ codes "\n") }
     ensures cause { HasCause (E.faults err.old) (E.faults err.new) result }
 {
+    match place {
+        None => write_three(err, front, name, b"\n"),
+        Some(place) => tell_place(err, front, name, place),
+    }
+}
+
+fn tell_place<E: Sink>(err: &mut E, front: &[u8], name: &[u8], place: usize) -> Result<(), Failed>
+    ensures takes { Takes (E.held err.old) (E.held err.new) (E.faults err.old) (E.faults err.new) ((front.now ++ name.now ++ codes " ") ++ (decimal place ++ codes "\n")) }
+    ensures cause { HasCause (E.faults err.old) (E.faults err.new) result }
+{
+    write_three(err, front, name, b" ")?;
     let mut buffer = Buffer::new();
-    write_three(err, front, buffer.format(at).as_bytes(), b"\n")
+    write_two(err, buffer.format(place).as_bytes(), b"\n")
 }

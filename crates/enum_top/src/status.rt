@@ -20,13 +20,15 @@ pub enum Status {
     Nothing,
     /// The words are no request.
     Usage,
-    /// The string is no number, or the file is not there.
+    /// The string, the wanted list, the apex or the number's domain is ill-formed, or a file is not there.
     IllFormed,
+    /// The report was printed, and it is a loop.
+    Loop,
     /// A call of this object failed.
     Outside(Object),
     /// Memory was wanting.
     Memory,
-    /// The file is there, and it is no plain text.
+    /// A file is there, and it is no plain text, or its apex is that of an earlier one.
     Unbuilt,
 }
 
@@ -40,6 +42,7 @@ impl Status {
             Status::Nothing => 1,
             Status::Usage => 2,
             Status::IllFormed => 3,
+            Status::Loop => 4,
             Status::Outside(_) => 5,
             Status::Memory => 6,
             Status::Unbuilt => 9,

@@ -28,13 +28,15 @@ pub fn write_three<K: Sink>(
     third: &[u8],
 ) -> Result<(), Failed>
     ensures takes { Takes (K.held sink.old) (K.held sink.new) (K.faults sink.old) (K.faults sink.new) (first.now ++ second.now ++ third.now) }
+    ensures whole { OnOk result (K.held sink.new ≡ with_more (K.held sink.old) (first.now ++ second.now ++ third.now)) }
     ensures cause { HasCause (K.faults sink.old) (K.faults sink.new) result }
 {
     write_two(sink, first, second)?;
     write_whole(sink, third)
 }
 
-fn write_two<K: Sink>(sink: &mut K, first: &[u8], second: &[u8]) -> Result<(), Failed>
+/// Writes two pieces, one after another, until a write failed.
+pub fn write_two<K: Sink>(sink: &mut K, first: &[u8], second: &[u8]) -> Result<(), Failed>
     ensures takes { Takes (K.held sink.old) (K.held sink.new) (K.faults sink.old) (K.faults sink.new) (first.now ++ second.now) }
     ensures whole { OnOk result (K.held sink.new ≡ with_more (K.held sink.old) (first.now ++ second.now)) }
     ensures cause { HasCause (K.faults sink.old) (K.faults sink.new) result }

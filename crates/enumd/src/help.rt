@@ -2,28 +2,32 @@
 
 /// The commands with their options, and the exit statuses.
 pub const HELP: &str = "\
-usage: enumd resolve enum STRING --zones FILE
+usage: enumd resolve enum STRING --zones FILE [options]
        enumd --help
        enumd --version
 
-enumd resolves telephone numbers to URIs by the rules of a zone (ENUM, RFC 6116).
+enumd resolves telephone numbers to URIs by the rules of zones (ENUM, RFC 6116).
 
 Commands:
-  resolve enum STRING --zones FILE
-      prints one line for each end of the number STRING, as +442079460148, by
-      the rules in FILE, and last a line with the number of ends
+  resolve enum STRING
+      prints one line for each end of the number STRING, as +442079460148, and
+      last a line with the number of ends; or the least loop, where the rules
+      lead round in a circle
 
-Options of resolve:
-  --zones FILE  the file with the zone's SOA, NS and NAPTR lines
+Options of resolve, in any order:
+  --zones FILE  a zone file; 1 to 64 times, each with an apex of its own
+  --want LIST   services that are wanted, as sip or email:mailto,web
+  --apex NAME   the domain under which numbers stand (e164.arpa.)
 
 Exit statuses:
   0  done: there is an end or more
   1  nothing: there is no end
   2  the words are no command
-  3  the number is ill-formed, or the file is not there
-  5  reading the file or writing the output failed
+  3  the number, the list or the apex is ill-formed, or a file is not there
+  4  there is a loop
+  5  reading a file or writing the output failed
   6  memory was wanting
-  9  the file is there, and its form is not read yet
+  9  a file is there, and its form is not read yet
 ";
 
 /// The program's name and version.

@@ -1,6 +1,6 @@
-use Rattle.enum_top.proofs.Resolved.{refused_of}
+use Rattle.std.proofs.Common.{inr, refl}
 use Rattle.enum_top.proofs.top.answer.Goals as goal
 
-pub returns-in-Err-resolve-clause-gives : goal.returns-in-Err-resolve-clause-gives
-returns-in-Err-resolve-clause-gives g c =
-    refused_of _ _ _ _ _ _ _ _ c.in-Some.ensures.some c.as_bytes.ensures.value c.in-Ok.ensures.number c.in-Ok.ensures.digits c.in-Err-resolve.ensures.resolves
+pub returns-in-Ok-clause-gives : goal.returns-in-Ok-clause-gives
+returns-in-Ok-clause-gives g c =
+    inr (_, record { request = c.in-Ok.request; means = c.in-Ok.ensures.meant; texts = refl }, c.resolve.ensures.resolves)

@@ -1,11 +1,11 @@
-use Rattle.std.proofs.Common.{rules}
-use Rattle.enum_top.proofs.Resolved.{printed_of, other_text}
+use Rattle.std.proofs.Common.{◌∙◌}
+use Rattle.enum_top.proofs.Resolving.{done_with, cut_short}
 use Rattle.enum_top.proofs.top.resolve.Goals as goal
 
-pub returns-in-Some-clause-resolves : goal.returns-in-Some-clause-resolves
-returns-in-Some-clause-resolves g c =
-    printed_of _ _ _ _ _ _ _ c.in-Ok.ensures.bytes c.as_slice.ensures (search rules)
+pub returns-in-Ok-write_whole-clause-resolves : goal.returns-in-Ok-write_whole-clause-resolves
+returns-in-Ok-write_whole-clause-resolves g c =
+    done_with _ _ _ _ _ _ _ _ _ c.in-Ok.ensures c.in-Ok-tell_zones.ensures.tells c.in-Ok-report_of.ensures (c.as_slice.ensures ∙ c.in-Ok-print_report.ensures) c.in-Ok-write_whole.ensures.whole c.status_for.ensures
 
 pub returns-clause-resolves : goal.returns-clause-resolves
 returns-clause-resolves g c =
-    other_text _ _ _ _ c.in-Ok.ensures.bytes c.as_slice.ensures (search rules)
+    cut_short _ _ _ _ _ _ _ _ c.in-Ok.ensures c.in-Ok-tell_zones.ensures.tells c.in-Ok-report_of.ensures (c.as_slice.ensures ∙ c.in-Ok-print_report.ensures) c.write_whole.ensures.takes.front
