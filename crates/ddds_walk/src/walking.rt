@@ -37,7 +37,6 @@ pub fn walk<P: DddsApp, S: RuleSource>(
     limit: u32,
 ) -> Result<Report, WalkFault>
     requires limit { 1 ≤ limit }
-
     // The answer is the report, or the least loop.
     ensures answer { WhereTold (S.zones source.old) (λ zones.
         IfOk result (Answers (client_of P.kinds P.serves P.steps_by_regexp app.now (wanted_text wanted.entry) aus.now) zones (folded_labels key.now))) }

@@ -41,6 +41,7 @@ HasBadKey words = WhereAsked words BreaksKey
 abbrev pub Lacks : List File → List ℕ → Asked → Type 0
 Lacks files name asked = IsWellFormed asked × StopsAt files asked.files name (IsAbsent files name)
 
+-- .. for what the words ask
 abbrev pub LacksFile : List (List ℕ) → List File → List ℕ → Type 0
 LacksFile words files name = WhereAsked words (Lacks files name)
 
@@ -48,6 +49,7 @@ LacksFile words files name = WhereAsked words (Lacks files name)
 abbrev pub MeetsOther : List File → Asked → Type 0
 MeetsOther files asked = IsWellFormed asked × ((name : List ℕ) × StopsAt files asked.files name (IsOther files name))
 
+-- .. for what the words ask
 abbrev pub HasOtherText : List (List ℕ) → List File → Type 0
 HasOtherText words files = WhereAsked words (MeetsOther files)
 

@@ -3,6 +3,7 @@ use Rattle.std.specs.Prelude.{ℕ}
 use Rattle.enum_top.specs.declared.status.Status.{Status}
 use Rattle.enum_top.specs.declared.status.Status.TheVariants.{Done, Nothing, Usage, IllFormed, Loop, Outside, Memory, Unbuilt}
 
+-- the exit code of a status
 abbrev pub code_of : Status → ℕ
 code_of Done = 0
 code_of Nothing = 1

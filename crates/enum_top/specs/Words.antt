@@ -23,12 +23,15 @@ pub record Given : Type 0 where
   pub option : List ℕ
   pub value : List ℕ
 
+-- the option with the wanted list
 abbrev pub want_option : List ℕ
 want_option = codes "--want"
 
+-- .. with the apex
 abbrev pub apex_option : List ℕ
 apex_option = codes "--apex"
 
+-- .. and with a zone file
 abbrev pub zones_option : List ℕ
 zones_option = codes "--zones"
 
