@@ -1,14 +1,14 @@
 -- What a walk's state says at its end: the least loop, or the report; and which domains are needed.
-use Rattle.std.proofs.Common.{◌≡◌, ℕ, ◌≤◌, ◌⊎◌, List, [], ◌∷◌, ◌++◌, refl, sym, ◌∙◌, ap, subst, inl, inr, append_assoc, append-nil}
+use Rattle.std.proofs.Common.{◌≡◌, ℕ, ◌≤◌, ◌⊎◌, List, [], ◌∷◌, ◌++◌, refl, subst, inl, inr}
 use Rattle.std.specs.Prelude.{Contains}
 use Rattle.ddds_walk.specs.Graph.{Graph, Leads, Passes}
 use Rattle.ddds_walk.specs.Order.{Less}
 use Rattle.ddds_walk.specs.Report.{IsLoop, IsLeastLoop, HasNoLoop, IsNeeded}
 use Rattle.ddds_walk.specs.Ways.{Mark, Found, EndsAs, marks_of, Walked}
 use Rattle.naptr_data.specs.Sources.{AreDistinct}
-use Rattle.ddds_walk.proofs.Order.{less_trans, less_longer, less_cases, rank_cases}
+use Rattle.ddds_walk.proofs.Order.{less_cases, rank_cases}
 use Rattle.ddds_walk.proofs.Elements.{has_none, has_cons, has_map}
-use Rattle.ddds_walk.proofs.Graphs.{leads_join, leads_by, leads_one, leads_rest, passes_one, passes_push, passes_has, passes_path, passes_cut}
+use Rattle.ddds_walk.proofs.Graphs.{leads_join, leads_by, leads_one, leads_rest, passes_one, passes_push, passes_has, passes_cut}
 use Rattle.ddds_walk.specs.Ways.{IsGraph}
 
 module _ {V : Type 0} (g : Graph V) (laws : IsGraph g) (key : V) (done : List V) (found : List (Found V))
@@ -39,32 +39,6 @@ module _ {V : Type 0} (g : Graph V) (laws : IsGraph g) (key : V) (done : List V)
   unmet ds m p h rs c e l =
       let t : Leads g m c top = leads_rest g laws rs c key m top (leads_by g path (rs ++ c) key top e w.here) l in
       h (passes_has g laws rs c key m top ds l t (subst (λ v. Passes g key v ds) e p))
-
-  -- what is reached below the cursor is needed
-  pub needed_below : (rs : List ℕ) (d : V) → Leads g key rs d → Less rs (path ++ next ∷ []) → IsNeeded g key d
-  needed_below rs d l h = (rs, l, λ ls ds x i. by ls ds x i (less_cases ls (path ++ next ∷ [])))
-    where
-      by : (ls : List ℕ) (ds : List V) (x : V) → IsLeastLoop g key ls ds x
-          → Less ls (path ++ next ∷ []) ⊎ ((ls ≡ path ++ next ∷ []) ⊎ Less (path ++ next ∷ []) ls) → Less rs ls
-      by ls ds x i (inl k) = absurd (no_loop_below ls ds x i.loop k)
-      by ls ds x i (inr (inl e)) = subst (λ v. Less rs v) (sym e) h
-      by ls ds x i (inr (inr k)) = less_trans rs (path ++ next ∷ []) ls h k
-
-  -- a finished domain is needed
-  pub done_needed : (d : V) → Contains done d → IsNeeded g key d
-  done_needed d k =
-      let (q, l, all) = w.first d k in
-      needed_below q d l (subst (λ v. Less v (path ++ next ∷ [])) (append-nil q) (all []))
-
-  -- a domain on the path is needed
-  pub path_needed : (ds : List V) (d : V) → Passes g key path ds → Contains (ds ++ top ∷ []) d → IsNeeded g key d
-  path_needed ds d p k =
-      let (a, c, e, l) = passes_path g laws path key top d ds p w.here k in
-      needed_below a d l (subst (λ v. Less a v) (sym (ap (λ v. v ++ next ∷ []) e ∙ append_assoc a c (next ∷ []))) (begins a c))
-    where
-      begins : (a c : List ℕ) → Less a (a ++ (c ++ next ∷ []))
-      begins a [] = less_longer a next []
-      begins a (x ∷ c) = less_longer a x (c ++ next ∷ [])
 
   -- the domain to which the edge at the cursor leads is needed, where it is not on the path
   pub next_needed : (ds : List V) (m : V) → Passes g key path ds → g.Steps top next m

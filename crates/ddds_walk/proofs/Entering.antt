@@ -90,22 +90,6 @@ module _ (c : Client) (limit : ℕ) (t : Tally) (Failed : Type 0) (w w' : Walk) 
       some : (zones : List Zone) (key : Labels) → IsAt c zones key w → AreSomeNeeded (graph_of c zones) key w'.asked
       some zones key s = subst (λ v. AreSomeNeeded (graph_of c zones) key v) (sym m.asked) (record { once = sound.once; only = s.needed })
 
-  -- a turn that asks nobody, for which memory is wanting
-  pub turned_nothing : IsSound limit w → w'.asked ≡ w.asked → HasTurned c limit t t Failed w w' (Err Memory)
-  turned_nothing sound same = record {
-    serves = record { zones = refl; room = refl; lent = refl; later = omega arith; trouble = λ e. cc };
-    counts = record {
-      once = subst (λ v. AreDistinct v) (sym same) sound.once;
-      few = subst (λ v. length v ≤ limit) (sym same) sound.few;
-      asks = λ a e. subst (λ v. t.asks ≡ more (length v) a) (sym same) e;
-      kept = λ x k f h. absurd x;
-      met = λ n e. cc;
-    };
-    sound = tt;
-    falls = λ e. cc;
-    told = λ zones key is s. (subst (λ v. AreSomeNeeded (graph_of c zones) key v) (sym same) (record { once = sound.once; only = s.needed }), tt, λ n e. cc);
-  }
-
 -- counts that stand for one result stand for each that is refused in its place
 memory_counts : {A B : Type 0} (limit : ℕ) (t u : Tally) (asked asked' : List Labels) (result : Result A WalkFault)
     → Counts limit t u asked asked' result → Counts {A = B} limit t u asked asked' (Err Memory)

@@ -20,9 +20,6 @@ module _ {V : Type 0} (g : Graph V) where
   pub leads_by : (a b : List ℕ) (k d : V) → a ≡ b → Leads g k a d → Leads g k b d
   leads_by a b k d p h = subst (λ w. Leads g k w d) p h
 
-  pub leads_step : (r : ℕ) (k d : V) → g.Steps k r d → Leads g k (r ∷ []) d
-  leads_step r k d s = (d, s, refl)
-
   pub ends_join : (a b : List ℕ) (k m : V) (e : Mark V) → Leads g k a m → EndsAs g m b e → EndsAs g k (a ++ b) e
   ends_join [] b k m e h j = subst (λ w. EndsAs g w b e) (sym h) j
   ends_join (r ∷ a) b k m e (n, s, h) j = inr (n, s, ends_join a b n m e h j)
@@ -98,31 +95,6 @@ module _ {V : Type 0} (g : Graph V) (laws : IsGraph g) where
       let l : Leads g m a d = leads_from g a n m d (laws.one k r n m u s) h in
       subst (λ w. Contains (w ++ t ∷ []) d) (sym e)
       (has_tail (rest ++ t ∷ []) k d (passes_has a c m d t rest l j q))
-
-  -- a derivation comes through each domain that it passes, and through its last one
-  pub passes_path : (p : List ℕ) (k t m : V) (ds : List V)
-      → Passes g k p ds → Leads g k p t → Contains (ds ++ t ∷ []) m
-      → (a : List ℕ) × (c : List ℕ) × (p ≡ a ++ c) × Leads g k a m
-  passes_path [] k t m ds q h i =
-      by (has_cons [] t m (subst (λ w. Contains (w ++ t ∷ []) m) q i))
-    where
-      by : (t ≡ m) ⊎ Contains [] m → (a : List ℕ) × (c : List ℕ) × ([] ≡ a ++ c) × Leads g k a m
-      by (inl e) = ([], [], refl, h ∙ e)
-      by (inr j) = absurd (has_none m j)
-  passes_path (r ∷ p) k t m ds (n, rest, s, q, e) (u, v, h) i =
-      let l : Leads g n p t = leads_from g p u n t (laws.one k r u n v s) h in
-      by (λ j. passes_path p n t m rest q l j)
-      (has_cons (rest ++ t ∷ []) k m (subst (λ w. Contains (w ++ t ∷ []) m) e i))
-    where
-      more : (a : List ℕ) × (c : List ℕ) × (p ≡ a ++ c) × Leads g n a m
-          → (a : List ℕ) × (c : List ℕ) × (r ∷ p ≡ a ++ c) × Leads g k a m
-      more (a, c, f, l) = (r ∷ a, c, ap (λ w. r ∷ w) f, (n, s, l))
-
-      by : (Contains (rest ++ t ∷ []) m → (a : List ℕ) × (c : List ℕ) × (p ≡ a ++ c) × Leads g n a m)
-          → (k ≡ m) ⊎ Contains (rest ++ t ∷ []) m
-          → (a : List ℕ) × (c : List ℕ) × (r ∷ p ≡ a ++ c) × Leads g k a m
-      by f (inl x) = ([], r ∷ p, refl, x)
-      by f (inr j) = more (f j)
 
   -- a derivation is cut at each domain that it passes
   pub passes_at : (ls : List ℕ) (k x : V) (ds : List V) → Passes g k ls ds → Contains ds x

@@ -8,7 +8,6 @@ pub mod Counts
 pub mod Theorems
 pub mod Rooted
 pub mod Told
-pub mod Telling
 pub mod Reporting
 pub mod Bound
 pub mod OneReport

@@ -30,15 +30,6 @@ has_some es e h = let (x, k, s) = has_unmap (λ (d : Labels). Some d) es (Some e
 pub has_no_root : (es : List Labels) → Contains (somes es) None → ⊥
 has_no_root es h = let (x, k, s) = has_unmap (λ (d : Labels). Some d) es None h in none_some x (sym s)
 
-pub somes_same : (es ds : List Labels) → somes es ≡ somes ds → es ≡ ds
-somes_same [] [] s = refl
-somes_same [] (d ∷ ds) s = cc
-somes_same (e ∷ es) [] s = cc
-somes_same (e ∷ es) (d ∷ ds) s =
-    let head : Some e ≡ Some d = cc in
-    let tail : somes es ≡ somes ds = cc in
-    ap (λ v. v ∷ es) (some_same e d head) ∙ ap (λ v. d ∷ v) (somes_same es ds tail)
-
 pub some_distinct : (es : List Labels) → AreDistinct es → AreDistinct (somes es)
 some_distinct [] d = tt
 some_distinct (e ∷ es) d = ((λ h. d.0 (has_some es e h)), some_distinct es d.1)
@@ -203,22 +194,8 @@ module _ (g : Graph Labels) (key : Labels) where
           let (ms, xs, x, f, i, j, h) = loop_in ls ds d m in
           l.least ms xs x h (less_tail zero ms qs (subst (λ v. Less v (zero ∷ qs)) f b))
 
-  -- the same, where the ranks and the domains are written as those from a key
-  pub least_at : (qs : List ℕ) (es : List Labels) (e : Labels)
-      → IsLeastLoop (rooted g (key ∷ [])) None (zero ∷ qs) (None ∷ somes es) (Some e) → IsLeastLoop g key qs es e
-  least_at qs es e l =
-      let (rs, ds, d, f, i, j, h) = least_in (zero ∷ qs) (None ∷ somes es) (Some e) l in
-      let ranks : rs ≡ qs = cc in
-      let rest : somes es ≡ somes ds = cc in
-      let domains : ds ≡ es = sym (somes_same es ds rest) in
-      subst (λ v. IsLeastLoop g key qs es v) (sym (some_same e d j))
-      (subst (λ v. IsLeastLoop g key qs v d) domains (subst (λ v. IsLeastLoop g key v ds d) ranks h))
-
   pub no_loop_in : HasNoLoop (rooted g (key ∷ [])) None → HasNoLoop g key
   no_loop_in n ls ds d l = n (zero ∷ ls) (None ∷ somes ds) (Some d) (loop_out ls ds d l)
-
-  pub no_loop_out : HasNoLoop g key → HasNoLoop (rooted g (key ∷ [])) None
-  no_loop_out n rs ds d l = let (qs, es, e, f, i, j, h) = loop_in rs ds d l in n qs es e h
 
   -- a domain is needed from the root where it is needed from the key
   pub needed_in : (d : Labels) → IsNeeded (rooted g (key ∷ [])) None (Some d) → IsNeeded g key d
