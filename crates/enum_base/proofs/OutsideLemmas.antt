@@ -1,6 +1,6 @@
 use Rattle.std.proofs.Common.{◌≡◌, ℕ, ◌+◌, List, [], ◌++◌, Option, Some, None, refl, ap}
 use Rattle.std.proofs.lemmas.List.{append_assoc, append-nil, drop-drop}
-use Rattle.enum_base.specs.Outside.{after, with_more}
+use Rattle.enum_base.specs.Outside.{WhereTold, after, with_more}
 
 -- nothing more leaves what was held
 pub with_more-nil : (held : Option (List ℕ)) → with_more held [] ≡ held
@@ -16,3 +16,18 @@ with_more-twice (Some bytes) first second = ap Some (append_assoc bytes first se
 pub after-twice : (n m : ℕ) (left : Option (List ℕ)) → after m (after n left) ≡ after (n + m) left
 after-twice n m None = refl
 after-twice n m (Some bytes) = ap Some (drop-drop m n bytes)
+
+-- what follows from a fact of what is told is one too
+pub WhereTold-map : {A : Type 0} (told : Option A) (P Q : A → Type 0) → ((x : A) → P x → Q x) → WhereTold told P → WhereTold told Q
+WhereTold-map None P Q f h = tt
+WhereTold-map (Some x) P Q f h = f x h
+
+-- .. of two facts
+pub WhereTold-both : {A : Type 0} (told : Option A) (P Q R : A → Type 0) → ((x : A) → P x → Q x → R x) → WhereTold told P → WhereTold told Q → WhereTold told R
+WhereTold-both None P Q R f h k = tt
+WhereTold-both (Some x) P Q R f h k = f x h k
+
+-- .. and of none
+pub WhereTold-all : {A : Type 0} (told : Option A) (P : A → Type 0) → ((x : A) → P x) → WhereTold told P
+WhereTold-all None P f = tt
+WhereTold-all (Some x) P f = f x

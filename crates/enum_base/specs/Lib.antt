@@ -1,6 +1,9 @@
 pub mod Causes
 pub mod Decimal
 pub mod Folding
+pub mod Loading
 pub mod Memory
 pub mod Outside
 pub mod Padding
+pub mod Words
+pub mod Writing

@@ -36,3 +36,19 @@ EndsAtEnd n (Some left) = (n ≡ 0) ↔ (left ≡ [])
 -- the bytes held, with more behind them
 abbrev pub with_more : Option (List ℕ) → List ℕ → Option (List ℕ)
 with_more held more = option_map (λ bytes. bytes ++ more) held
+
+-- what a shelf tells: the files and the bytes left of the fetched one, and how many calls failed
+pub record ShelfState : Type 0 where
+  pub files : Option (List File)
+  pub left : Option (List ℕ)
+  pub faults : ℕ
+
+-- what a sink tells: the bytes held, and how many calls failed
+pub record SinkState : Type 0 where
+  pub held : Option (List ℕ)
+  pub faults : ℕ
+
+-- a fact of what is told, where it is told
+abbrev pub WhereTold : {A : Type 0} → Option A → (A → Type 0) → Type 0
+WhereTold None Fact = ⊤
+WhereTold (Some told) Fact = Fact told

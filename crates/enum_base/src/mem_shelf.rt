@@ -67,11 +67,7 @@ impl MemShelf {
 }
 
 impl Shelf for MemShelf {
-    ghost files = { λ s. Some s.files };
-
-    ghost left = { λ s. Some s.left };
-
-    ghost faults = { λ s. s.faults };
+    ghost state = { λ s. record { files = Some s.files; left = Some s.left; faults = s.faults } };
 
     fn fetch(&mut self, name: &str) -> Result<bool, Failed>
         ensures files { Some self.new.files ≡ Some self.old.files }
