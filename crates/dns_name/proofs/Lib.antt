@@ -1,5 +1,12 @@
 pub mod BelowLemmas
+pub mod CodeLemmas
+pub mod FoundLemmas
 pub mod NameLemmas
+pub mod ReadLemmas
+pub mod RunLemmas
 pub mod SpellLemmas
 pub mod TextLawLemmas
 pub mod TextLemmas
+pub mod WireLemmas
+pub mod WithinLemmas
+pub mod WithinFoundLemmas

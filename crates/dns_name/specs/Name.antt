@@ -1,6 +1,9 @@
 -- Domain names as lists of labels, and their wire form (RFC 1035, sections 2.3.4 and 3.1).
 use Rattle.std.specs.Prelude.{◌≡◌, ℕ, zero, suc, ◌<◌, ◌≤◌, nat_le, List, [], ◌∷◌, ◌++◌, map, length, take, drop, if◌then◌else◌, Option, Some, None}
 use Rattle.std.specs.List.{AllByRecursion, flat_map}
+use Rattle.std.specs.declared.cmp.Ordering.{Ordering}
+use Rattle.std.specs.Ordering.{nat_cmp}
+use Rattle.std.specs.Cmp.Lexicographic.{slice_cmp}
 use Rattle.enum_base.specs.Folding.{folded}
 use Rattle.enum_base.specs.Padding.{padded}
 
@@ -38,6 +41,19 @@ AreSame one other = folded_labels one ≡ folded_labels other
 -- a name is at or below another that is the same as its last labels (RFC 1034, 3.1)
 abbrev pub IsBelow : List (List ℕ) → List (List ℕ) → Type 0
 IsBelow name top = (front : List (List ℕ)) × (back : List (List ℕ)) × (name ≡ front ++ back) × AreSame back top
+
+-- the order of names: by their wire bytes, with A to Z as small letters (this project's own)
+abbrev pub folded_order : List (List ℕ) → List (List ℕ) → Ordering
+folded_order one other = slice_cmp nat_cmp (folded (wire_of one)) (folded (wire_of other))
+
+-- the name above one: all its labels but the first; the root has none (RFC 1034, 3.1)
+abbrev pub parent_of : List (List ℕ) → Option (List (List ℕ))
+parent_of [] = None
+parent_of (label ∷ labels) = Some labels
+
+-- the label of wildcards (RFC 4592, 2.1.1)
+abbrev pub star : List ℕ
+star = 42 ∷ []
 
 -- these labels, where their wire form fits a name
 abbrev pub name_within : List (List ℕ) → Option (List (List ℕ))

@@ -1,4 +1,7 @@
 //! Why a text is no name.
+ghost use Rattle.std.specs.Prelude.{◌≡◌};
+
+use enum_base::{FaultWords, fault_at, fault_named};
 
 /// The first fault of a text by place, then the two of the whole. Places count bytes from the start.
 #[derive(Clone, Copy, Debug, PartialEq, Eq)]
@@ -13,4 +16,21 @@ pub enum NameFault {
     BadEscape { at: usize },
     /// A relative text, and no origin.
     NoOrigin,
+}
+
+impl NameFault {
+    ghost use Rattle.dns_name.specs.FaultWords.{name_fault};
+
+    /// The fault's name, and its place behind a space where it has one.
+    pub fn words(&self) -> FaultWords
+        ensures { result ≡ name_fault self.now }
+    {
+        match self {
+            NameFault::EmptyLabel { at } => fault_at("EmptyLabel", *at),
+            NameFault::LabelTooLong { at } => fault_at("LabelTooLong", *at),
+            NameFault::NameTooLong => fault_named("NameTooLong"),
+            NameFault::BadEscape { at } => fault_at("BadEscape", *at),
+            NameFault::NoOrigin => fault_named("NoOrigin"),
+        }
+    }
 }

@@ -2,7 +2,10 @@
 ghost use Rattle.std.specs.Prelude.{◌≡◌, ◌<◌, ◌≤◌, ◌+◌, ◌↔◌, [], ◌∷◌, ◌++◌, length, take, drop, IsTrue};
 ghost use Rattle.enum_base.specs.Padding.{padded};
 
-use enum_base::fold_byte;
+use crate::fault::NameFault;
+use crate::order::cmp_folded_bytes;
+use enum_base::{fold_byte, same_folded};
+use std::cmp::Ordering;
 use std::marker::Model;
 
 /// A domain name of at most 255 bytes on the wire (RFC 1035, 2.3.4). Contracts see its labels, the
@@ -35,7 +38,8 @@ impl Model for Name {
 }
 
 impl Name {
-    ghost use Rattle.dns_name.specs.Name.{wire_of, labels_of, folded_labels, name_within, AreSame, IsBelow, IsName, IsWire};
+    ghost use Rattle.dns_name.specs.Name.{wire_of, labels_of, folded_labels, folded_order, name_within, parent_of, star, AreSame, IsBelow, IsName, IsWire};
+    ghost use Rattle.dns_name.specs.Reading.{fitting};
 
     /// The root.
     pub fn root() -> Name
@@ -70,21 +74,60 @@ impl Name {
     pub fn same(&self, other: &Name) -> bool
         ensures { IsTrue result ↔ AreSame self.now other.now }
     {
-        self.fold() == other.fold()
+        same_folded(self.wire(), other.wire())
+    }
+
+    /// The order of names: by their wire bytes, with `A` to `Z` as small letters. A label's length comes before its bytes.
+    pub fn cmp_folded(&self, other: &Name) -> Ordering
+        ensures { result ≡ folded_order self.now other.now }
+    {
+        cmp_folded_bytes(self.wire(), other.wire())
+    }
+
+    /// The name without its first label; the root has none (RFC 1034, 3.1).
+    pub fn parent(&self) -> Option<Name>
+        ensures { result ≡ parent_of self.now }
+    {
+        let wire = self.wire();
+        if wire.len() == 1 {
+            return None;
+        }
+        Some(Name::of_wire(split_first(wire).1))
+    }
+
+    /// The name with the label `*` before it, as wildcards have it (RFC 4592, 2.1.1).
+    ///
+    /// # Errors
+    /// `NameTooLong` where it would pass 255 bytes.
+    pub fn prepend_star(&self) -> Result<Name, NameFault>
+        ensures { result ≡ fitting (name_within (star ∷ self.now)) }
+    {
+        Name::of_label(b"*")
+            .followed_by(self)
+            .ok_or(NameFault::NameTooLong)
     }
 
     /// Whether this name is the other or lies below it, without regard to case.
     pub fn is_below(&self, other: &Name) -> bool
         ensures { IsTrue result ↔ IsBelow self.now other.now }
     {
-        let name = self.fold();
-        let above = other.fold();
-        let top = above.wire();
-        let mut rest = name.wire();
+        let top = other.wire();
+        let mut rest = self.wire();
         while rest.len() > top.len() {
             rest = split_first(rest).1;
         }
-        rest == top
+        same_folded(rest, top)
+    }
+
+    /// The name of these wire bytes.
+    pub(crate) fn of_wire(wire: &[u8]) -> Name
+        requires { IsWire wire.now }
+        ensures { result ≡ labels_of wire.now }
+    {
+        Name {
+            row: row_of(wire, &[]),
+            len: wire.len() as u8,
+        }
     }
 
     /// The name of one label.

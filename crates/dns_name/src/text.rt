@@ -8,7 +8,7 @@ use crate::fault::NameFault;
 use crate::label::Label;
 use crate::name::{Name, split_first};
 use crate::piece::Piece;
-use crate::written::Written;
+use crate::written::{NameText, push_label};
 use enum_base::{Bytes, MemoryFault};
 
 impl Name {
@@ -36,22 +36,29 @@ impl Name {
         parse(text, origin)
     }
 
-    /// Appends the text of the name: each label with a `.` behind it, or `.` alone for the root.
-    pub fn to_text(&self, out: &mut Bytes) -> Result<(), MemoryFault>
-        ensures ok { OnOk result (out.new ≡ out.old ++ text_of self.now) }
-        ensures err { OnErr result (out.new ≡ out.old) }
+    /// The text of the name: each label with a `.` behind it, or `.` alone for the root.
+    pub fn text(&self) -> NameText
+        ensures { result ≡ text_of self.now }
     {
-        let mut text = Written::new();
+        let mut text = NameText::new();
         let mut rest = self.wire();
         if rest.len() == 1 {
             text.push(b'.');
         }
         while rest.len() > 1 {
             let (label, after) = split_first(rest);
-            text.push_label(label);
+            push_label(&mut text, label);
             rest = after;
         }
-        out.push_slice(text.as_slice())
+        text
+    }
+
+    /// Appends the text of the name.
+    pub fn to_text(&self, out: &mut Bytes) -> Result<(), MemoryFault>
+        ensures ok { OnOk result (out.new ≡ out.old ++ text_of self.now) }
+        ensures err { OnErr result (out.new ≡ out.old) }
+    {
+        out.push_slice(self.text().as_slice())
     }
 }
 

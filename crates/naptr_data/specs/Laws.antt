@@ -1,5 +1,5 @@
 -- Laws of rules.
-use Rattle.std.specs.Prelude.{◌≡◌, List}
+use Rattle.std.specs.Prelude.{◌≡◌, List, Contains}
 use Rattle.std.specs.Cmp.{IsTotalOrder}
 use Rattle.std.specs.declared.cmp.Ordering.TheVariants.{Equal}
 use Rattle.dns_name.specs.Name.{AreSame, folded_labels}
@@ -7,6 +7,7 @@ use Rattle.naptr_data.specs.declared.rule.Naptr.{Naptr}
 use Rattle.naptr_data.specs.Rdata.{rdata, IsRule}
 use Rattle.naptr_data.specs.Rank.{rank_of}
 use Rattle.naptr_data.specs.Zones.{Labels, Zone, IsOffer}
+use Rattle.naptr_data.specs.Zones.Item.{rule}
 use Rattle.naptr_data.specs.declared.offer.Offer.{Offer}
 
 -- rules with the same RDATA are one rule
@@ -24,6 +25,15 @@ RankIsTotal = IsTotalOrder rank_of
 -- zones offer one thing for a name
 abbrev pub ZonesMakeOneOffer : Type 0
 ZonesMakeOneOffer = (zones : List Zone) (name : Labels) (one other : Offer) → IsOffer zones name one → IsOffer zones name other → one ≡ other
+
+-- each rule of the zones is one by the ranges of its fields
+abbrev pub HoldRules : List Zone → Type 0
+HoldRules zones =
+    (zone : Zone) (owner : Labels) (r : Naptr) → Contains zones zone → Contains zone.items (record { owner = owner; item = rule r }) → IsRule r
+
+-- such zones offer something for every name
+abbrev pub ZonesMakeAnOffer : Type 0
+ZonesMakeAnOffer = (zones : List Zone) (name : Labels) → HoldRules zones → (o : Offer) × IsOffer zones name o
 
 -- names that are the same are offered the same
 abbrev pub SameNamesHaveSameOffers : Type 0

@@ -1,16 +1,25 @@
 -- What a source of rules tells of its asks, and of the names that it keeps (this project's own).
-use Rattle.std.specs.Prelude.{◌≡◌, ◌⊎◌, ℕ, ◌≤◌, List, [], ◌∷◌, ◌++◌, length, take, Contains, Option, Some, None, Result, Ok, Err, ⊤}
+use Rattle.std.specs.Prelude.{◌≡◌, ◌⊎◌, ℕ, ◌≤◌, List, [], ◌∷◌, ◌++◌, length, take, Contains, Bool, IsTrue, Option, Result, Ok, Err, ⊤}
 use Rattle.enum_base.specs.Causes.{Rose, one_more}
-use Rattle.naptr_data.specs.Zones.{Labels, Zone, IsOffer, IsRising}
+use Rattle.dns_name.specs.Name.{folded_labels}
+use Rattle.naptr_data.specs.Zones.{Labels, Zone, IsRising}
 use Rattle.naptr_data.specs.declared.offer.Offer.{Offer}
 use Rattle.naptr_data.specs.declared.offer.Offer.TheVariants as offer
 use Rattle.naptr_data.specs.declared.source.SourceFault.{SourceFault}
 use Rattle.naptr_data.specs.declared.source.SourceFault.TheVariants.{Trouble}
 
--- what zones offer for a name, where zones are told
-abbrev pub Offers : Option (List Zone) → Labels → Offer → Type 0
-Offers None name o = ⊤
-Offers (Some zones) name o = IsOffer zones name o
+-- what a source tells of itself: the zones that it answers from, which need not be told; how often it was asked and had
+-- trouble, and whether the last answer was trouble; how many names it keeps at most, the folded names that it keeps, the
+-- last asked first, and how often it fetched one that it did not keep; and what it was lent
+pub record SourceState : Type 0 where
+  pub zones : Option (List Zone)
+  pub asks : ℕ
+  pub troubles : ℕ
+  pub failed : Bool
+  pub room : ℕ
+  pub kept : List Labels
+  pub fetched : ℕ
+  pub lent : List ℕ
 
 -- the rules of an offer rise, and are at most 65,535
 abbrev pub HasFewRules : Offer → Type 0
@@ -40,13 +49,14 @@ pub record Fetches (name : Labels) (old : List Labels) (before now : ℕ) : Type
   pub kept : Contains old name → now ≡ before
   pub missing : ¬ Contains old name → now ≡ one_more before
 
--- the names that are kept are distinct, and each was fetched
+-- the names that are kept are folded and distinct, and each was fetched
 pub record AreKept (names : List Labels) (fetched : ℕ) : Type 0 where
+  pub folded : (name : Labels) → Contains names name → folded_labels name ≡ name
   pub once : AreDistinct names
   pub few : length names ≤ fetched
 
 -- trouble comes only where the count of troubles rose, and the source has then failed
-pub record HasTrouble {A : Type 0} (before now : ℕ) (Failed : Type 0) (result : Result A SourceFault) : Type 0 where
-  pub later : before ≤ now
-  pub rose : result ≡ Err Trouble → Rose before now
-  pub failed : result ≡ Err Trouble → Failed
+pub record HasTrouble {A : Type 0} (old new : SourceState) (result : Result A SourceFault) : Type 0 where
+  pub later : old.troubles ≤ new.troubles
+  pub rose : result ≡ Err Trouble → Rose old.troubles new.troubles
+  pub failed : result ≡ Err Trouble → IsTrue new.failed

@@ -4,6 +4,7 @@ use Rattle.std.specs.Prelude.{◌≡◌, ◌↔◌, ◌⊎◌, ℕ, ◌+◌, ◌
 use Rattle.std.specs.declared.cmp.Ordering.TheVariants.{Less}
 use Rattle.std.specs.List.{AllByRecursion}
 use Rattle.dns_name.specs.Name.{AreSame, IsBelow}
+pub use Rattle.dns_name.specs.Name.{star}
 use Rattle.naptr_data.specs.Rank.{rank_of}
 use Rattle.naptr_data.specs.declared.offer.Offer.{Offer}
 use Rattle.naptr_data.specs.declared.offer.Offer.TheVariants as offer
@@ -60,10 +61,6 @@ pub record Encloses (zone : Zone) (name encloser : Labels) : Type 0 where
   pub inside : IsBelow encloser zone.apex
   pub exists : Exists zone encloser
   pub closest : ¬ Exists zone (label ∷ encloser)
-
--- the label of wildcards
-abbrev pub star : List ℕ
-star = 42 ∷ []
 
 -- whose items a name has: its own where it exists, else those of `*.` before its closest encloser (RFC 4592, 3.3.1)
 abbrev pub IsSource : Zone → Labels → Labels → Type 0

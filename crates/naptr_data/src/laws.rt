@@ -1,5 +1,5 @@
 //! Laws of rules.
-ghost use Rattle.naptr_data.specs.Laws.{RdataTellsRules, RankTellsRules, RankIsTotal, ZonesMakeOneOffer, SameNamesHaveSameOffers, FoldedNamesHaveSameOffers};
+ghost use Rattle.naptr_data.specs.Laws.{RdataTellsRules, RankTellsRules, RankIsTotal, ZonesMakeOneOffer, ZonesMakeAnOffer, SameNamesHaveSameOffers, FoldedNamesHaveSameOffers};
 
 /// No two rules have the same RDATA.
 pub fn rdata_tells_rules()
@@ -15,6 +15,11 @@ pub fn rank_is_total()
 /// Zones offer one thing for a name.
 pub fn one_offer()
     ensures { ZonesMakeOneOffer }
+{}
+
+/// Zones offer something for every name, as long as their rules are rules.
+pub fn some_offer()
+    ensures { ZonesMakeAnOffer }
 {}
 
 /// The case of a name's letters decides nothing.

@@ -6,11 +6,10 @@ mod offer;
 mod rule;
 mod rules;
 mod source;
-#[cfg(test)]
-mod tests;
+mod text;
 mod written;
 
-pub use laws::{offer_folds, one_offer, rank_is_total, rdata_tells_rules};
+pub use laws::{offer_folds, one_offer, rank_is_total, rdata_tells_rules, some_offer};
 pub use offer::Offer;
 pub use rule::Naptr;
 pub use rules::Rules;

@@ -1,7 +1,7 @@
 //! NAPTR rules.
 ghost use Rattle.std.specs.Prelude.{◌≡◌, ◌≤◌, ◌++◌, length, OnOk, OnErr};
 
-use crate::written::Written;
+use crate::written::{Written, push_string};
 use dns_name::Name;
 use enum_base::{Bytes, MemoryFault, Text255};
 use std::cmp::Ordering;
@@ -32,9 +32,9 @@ impl Naptr {
         let mut written = Written::new();
         written.push_slice(&self.order.to_be_bytes());
         written.push_slice(&self.preference.to_be_bytes());
-        written.push_string(&self.flags);
-        written.push_string(&self.services);
-        written.push_string(&self.regexp);
+        push_string(&mut written, &self.flags);
+        push_string(&mut written, &self.services);
+        push_string(&mut written, &self.regexp);
         written.push_slice(self.replacement.wire());
         out.push_slice(written.as_slice())
     }

@@ -1,9 +1,9 @@
-use Rattle.std.proofs.Common.{◌≡◌, ◌≢◌, ◌⊎◌, ◌∙◌, ◌++◌, ◌∷◌, [], List, ℕ, length, OnOk, ap, subst, refl, inl, inr, arith}
+use Rattle.std.proofs.Common.{◌≡◌, ◌≢◌, ◌⊎◌, ◌∙◌, ◌++◌, ◌∷◌, [], length, ap, inl, inr, arith}
 use Rattle.dns_name.specs.Text.{dot}
 use Rattle.dns_name.proofs.BelowLemmas.{IsWire-name}
 use Rattle.dns_name.proofs.TextLemmas.{text_begin, text_room, text_more, text_fits, text_end}
-use Rattle.dns_name.proofs.name.Name.to_text.Goals as goal
-use Rattle.dns_name.proofs.name.Name.to_text.Goals.{then-rest-eq1, else-rest-eq1}
+use Rattle.dns_name.proofs.name.Name.text.Goals as goal
+use Rattle.dns_name.proofs.name.Name.text.Goals.{then-rest-eq1, else-rest-eq1}
 
 pub loop-rest-init : goal.loop-rest-init
 loop-rest-init c =
@@ -14,7 +14,7 @@ loop-rest-init c =
       | else-rest-eq1 w ↦ inr (w.if-rest-eq1.false, w.text-is ∙ c.new-text.ensures)
     ] in
     record {
-      wire = (IsWire-name c.args.self.now c.args.self.now wire c.wire-rest.ensures.value c.wire-rest.ensures.name refl).0;
+      wire = IsWire-name c.args.self.now wire c.wire-rest.ensures.value c.wire-rest.ensures.name;
       bytes = text_begin c.args.self.now wire c.if-rest-eq1.text c.wire-rest.ensures.value c.wire-rest.ensures.name start;
       room = text_room wire c.if-rest-eq1.text (let short = c.wire-rest.ensures.name.short in omega (arith, ap length c.wire-rest.ensures.value)) start;
     }
@@ -26,8 +26,5 @@ loop-rest-preserved c = record {
   room = text_fits c.loop-rest.text _ c.split_first.result.0.now _ _ c.loop-rest.invariant.room c.split_first.ensures.sum c.push_label.ensures;
 }
 
-pub returns-clause-ok : goal.returns-clause-ok
-returns-clause-ok c =
-    let e = text_end c.loop-rest.text _ c.loop-rest.rest.now c.loop-rest.invariant.wire c.loop-rest-test.false c.loop-rest.invariant.bytes in
-    let P : List ℕ → Type 0 = λ t. OnOk c.push_slice.result (c.push_slice.new.self ≡ c.args.out.now ++ t) in
-    subst P (c.as_slice.ensures ∙ e) c.push_slice.ensures.ok
+pub returns : goal.returns
+returns c = text_end c.loop-rest.text _ c.loop-rest.rest.now c.loop-rest.invariant.wire c.loop-rest-test.false c.loop-rest.invariant.bytes

@@ -1,10 +1,10 @@
 use Rattle.std.proofs.Common.{◌≡◌, ◌≤◌, ◌+◌, ◌*◌, ◌++◌, length, take}
 use Rattle.std.specs.List.{flat_map}
 use Rattle.dns_name.specs.Text.{byte_text}
-use Rattle.dns_name.proofs.written.Written.push_label.Given as goal
+use Rattle.dns_name.proofs.written.push_label.Given as goal
 
 abbrev pub invariant-loop-byte : goal.invariant-loop-byte
 invariant-loop-byte l = record {
-  bytes : l.self ≡ l.initial.self ++ flat_map byte_text (take l.byte-index l.label);
-  room : length l.self ≤ length l.initial.self + 4 * l.byte-index;
+  bytes : l.text ≡ l.initial.text ++ flat_map byte_text (take l.byte-index l.label);
+  room : length l.text ≤ length l.initial.text + 4 * l.byte-index;
 }

@@ -2,7 +2,7 @@ use Rattle.std.proofs.Common.{◌≡◌, ◌≤◌, ◌+◌, ◌*◌, ◌++◌, 
 use Rattle.std.specs.List.{flat_map}
 use Rattle.dns_name.specs.Name.{labels_of, IsWire}
 use Rattle.dns_name.specs.Text.{label_text, text_of}
-use Rattle.dns_name.proofs.name.Name.to_text.Given as goal
+use Rattle.dns_name.proofs.name.Name.text.Given as goal
 
 abbrev pub invariant-loop-rest : goal.invariant-loop-rest
 invariant-loop-rest l = record {

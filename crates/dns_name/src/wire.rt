@@ -1,0 +1,121 @@
+//! Names in messages.
+ghost use Rattle.std.specs.Prelude.{◌≡◌, ◌↔◌, ◌<◌, ◌≤◌, List, ℕ, length, IfOk, MatchOption};
+ghost use Rattle.dns_name.specs.Fields.{IsAnswer, IsWithin, cut_place};
+ghost use Rattle.dns_name.specs.Wire.{RunIsCut};
+
+use crate::field::{Field, field_at};
+use crate::name::Name;
+use crate::wire_fault::{WireFault, WithinFault};
+use enum_base::Buffer;
+
+impl Name {
+    ghost use Rattle.dns_name.specs.Wire.{NameAt, NameBreaks, NameWithin, WithinBreaks};
+
+    /// The name at that place of a message, and the place behind it: behind its first pointer, or where it has none behind its
+    /// root (RFC 1035, 4.1.4). A pointer leads to an offset less than the start of the label run that it ends.
+    ///
+    /// # Errors
+    /// The first label or pointer in the order of reading that cannot be read, with its place.
+    pub fn read_at(message: &[u8], at: usize) -> Result<(Name, usize), WireFault>
+        requires { at ≤ length message.now }
+        ensures name { (labels : List (List ℕ)) (next : ℕ) → (result ≡ Ok (labels, next)) ↔ NameAt message.now at labels next }
+        ensures fault { (fault : WireFault) → (result ≡ Err fault) ↔ NameBreaks message.now at fault }
+        ensures within { IfOk result (λ read. (at < read.1) × (read.1 ≤ length message.now)) }
+    {
+        read(message, at)
+    }
+
+    /// The name at that place, whose first label run lies before `to`. Runs that pointers lead to may lie behind it.
+    ///
+    /// # Errors
+    /// `Shape` where a label or pointer of the first run does not lie wholly before `to`, else as `read_at`.
+    pub fn read_within(message: &[u8], at: usize, to: usize) -> Result<(Name, usize), WithinFault>
+        requires begin { at ≤ to }
+        requires end { to ≤ length message.now }
+        ensures name { (labels : List (List ℕ)) (next : ℕ) → (result ≡ Ok (labels, next)) ↔ NameWithin message.now at to labels next }
+        ensures fault { (fault : WithinFault) → (result ≡ Err fault) ↔ WithinBreaks message.now at to fault }
+        ensures within { IfOk result (λ read. (at < read.1) × (read.1 ≤ to)) }
+    {
+        within(message, at, to)
+    }
+}
+
+// The same, by one clause.
+fn within(message: &[u8], at: usize, to: usize) -> Result<(Name, usize), WithinFault>
+    requires begin { at ≤ to }
+    requires end { to ≤ length message.now }
+    ensures { IsWithin message.now at to result }
+{
+    if let Some(place) = cut_in_run(&message[..to], at) {
+        return Err(WithinFault::Shape { at: place });
+    }
+    match read(message, at) {
+        Ok(read) => Ok(read),
+        Err(fault) => Err(WithinFault::Wire(fault)),
+    }
+}
+
+// The place of the label or pointer of the first run that does not lie wholly in the bytes.
+fn cut_in_run(bytes: &[u8], at: usize) -> Option<usize>
+    requires { at ≤ length bytes.now }
+    ensures { MatchOption result ((place : ℕ) → ¬ RunIsCut bytes.now at place) (RunIsCut bytes.now at) }
+{
+    let mut here = at;
+    'labels: loop {
+        match field_at(bytes, here) {
+            Ok(Field::Label(size)) => {
+                if here - at + size + 2 > 255 {
+                    return None;
+                }
+                here += size + 1;
+            }
+            Ok(Field::Root) => return None,
+            Ok(Field::Pointer(_)) => return None,
+            Err(fault) => return cut_place(fault),
+        }
+    }
+}
+
+// The place of a label or pointer that does not lie wholly in the bytes.
+fn cut_place(fault: WireFault) -> Option<usize>
+    ensures { result ≡ cut_place fault }
+{
+    match fault {
+        WireFault::Short { at } => Some(at),
+        _ => None,
+    }
+}
+
+// The name at that place and the place behind it.
+fn read(message: &[u8], at: usize) -> Result<(Name, usize), WireFault>
+    requires { at ≤ length message.now }
+    ensures { IsAnswer message.now at result }
+{
+    let mut wire = Buffer::<255>::new();
+    let (mut start, mut here) = (at, at);
+    let mut next = None;
+    'fields: loop {
+        match field_at(message, here)? {
+            Field::Root => {
+                wire.push(0);
+                return Ok((Name::of_wire(wire.as_slice()), next.unwrap_or(here + 1)));
+            }
+            Field::Label(size) => {
+                if wire.as_slice().len() + size + 2 > 255 {
+                    return Err(WireFault::NameTooLong { at: here });
+                }
+                wire.push_slice(&message[here..here + size + 1]);
+                here += size + 1;
+            }
+            Field::Pointer(offset) => {
+                let limit = start;
+                if offset >= limit {
+                    return Err(WireFault::ForwardPointer { at: here });
+                }
+                next = Some(next.unwrap_or(here + 2));
+                start = offset;
+                here = offset;
+            }
+        }
+    }
+}
