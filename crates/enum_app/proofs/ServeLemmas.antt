@@ -1,31 +1,18 @@
-use Rattle.std.proofs.Common.{◌≡◌, ℕ, Bool, true, ◌&&◌, is_none, List, Option, Some, None, IsTrue, ◌↔◌, refl, sym, ap, subst, ◌∙◌}
-use Rattle.std.proofs.lemmas.Bool.{and_parts}
+-- Services serve where they fit.
+use Rattle.std.proofs.Common.{◌≡◌, ℕ, Bool, List, Option, IsTrue, ◌↔◌, subst}
 use Rattle.service_field.specs.Faults.{services_fault}
 use Rattle.service_field.specs.Fitting.{Fits, items_serve}
-use Rattle.service_field.specs.Services.{Item, SpellsServices, services_items}
-use Rattle.service_field.specs.declared.fault.ServiceFault.{ServiceFault}
+use Rattle.service_field.specs.Tags.{Item}
+use Rattle.service_field.specs.Services.{SpellsServices, services_items}
 use Rattle.service_field.proofs.FitLemmas.{serve_decides}
+use Rattle.service_field.proofs.ServeLemmas.{serves_as_read, serves_where}
 use Rattle.service_field.proofs.SpellLemmas.{services_read, services_spelled}
 use Rattle.enum_app.specs.App.{enum_serves}
 
--- where services are spelled by items, these decide
-items_decide : (wanted : Option (List ℕ)) (services : List ℕ) (items : List Item) → SpellsServices services items → items_serve wanted items ≡ enum_serves wanted services
-items_decide wanted services items spelled =
-    let read = services_read services items spelled in
-    ap (items_serve wanted) read.1 ∙ sym (ap (λ o. is_none o && items_serve wanted (services_items services)) read.0)
-
 pub serves_read : (wanted : Option (List ℕ)) (services text : List ℕ) (items : List Item) (r : Bool) → text ≡ services → SpellsServices text items → r ≡ items_serve wanted items → r ≡ enum_serves wanted services
 serves_read wanted services text items r same spelled is =
-    is ∙ items_decide wanted services items (subst (λ t. SpellsServices t items) same spelled)
+    serves_as_read (services_fault services) (services_items services) items (items_serve wanted) r (services_read services items (subst (λ t. SpellsServices t items) same spelled)) is
 
-none_of : (o : Option ServiceFault) → is_none o ≡ true → o ≡ None
-none_of None is = refl
-none_of (Some f) is = absurd (cc)
-
-pub serves_where : (wanted : Option (List ℕ)) (services : List ℕ) → IsTrue (enum_serves wanted services) ↔ ((items : List Item) × SpellsServices services items × Fits wanted items)
-serves_where wanted services = (
-  λ serves.
-      let both = and_parts (is_none (services_fault services)) (items_serve wanted (services_items services)) serves in
-      (services_items services, services_spelled services (none_of (services_fault services) both.0), (serve_decides wanted (services_items services)).0 both.1),
-  λ (items, spelled, fits). sym (items_decide wanted services items spelled) ∙ (serve_decides wanted items).1 fits,
-)
+pub serves_where_it_fits : (wanted : Option (List ℕ)) (services : List ℕ) → IsTrue (enum_serves wanted services) ↔ ((items : List Item) × SpellsServices services items × Fits wanted items)
+serves_where_it_fits wanted services =
+    serves_where (services_fault services) (services_items services) (SpellsServices services) (Fits wanted) (items_serve wanted) (services_spelled services) (services_read services) (serve_decides wanted)

@@ -1,5 +1,6 @@
 -- What ENUM makes of flags and services (RFC 6116, sections 3.4.2 and 3.4.3).
-use Rattle.std.specs.Prelude.{ℕ, Bool, ◌&&◌, ◌||◌, ◌==◌, if◌then◌else◌, is_none, List, [], ◌∷◌, Option}
+use Rattle.std.specs.Prelude.{ℕ, Bool, true, false, ◌&&◌, ◌||◌, ◌==◌, if◌then◌else◌, is_none, List, [], ◌∷◌, Option}
+use Rattle.service_field.specs.Applications.{Meaning}
 use Rattle.service_field.specs.Faults.{services_fault}
 use Rattle.service_field.specs.Fitting.{items_serve}
 use Rattle.service_field.specs.Services.{services_items}
@@ -20,3 +21,8 @@ enum_fault services = services_fault services
 -- services serve where they have no fault and their items serve what is wanted
 abbrev pub enum_serves : Option (List ℕ) → List ℕ → Bool
 enum_serves wanted services = is_none (enum_fault services) && items_serve wanted (services_items services)
+
+-- ENUM as an application: a rule that is not terminal may give its next domain by REGEXP, and a URI rule may have any
+-- expression
+abbrev pub enum_meaning : Meaning
+enum_meaning = record { kind = enum_kind; serves = enum_serves; fault = enum_fault; steps_by_regexp = true; wants_whole = false }

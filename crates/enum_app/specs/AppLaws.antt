@@ -1,13 +1,13 @@
 -- What the laws of applications say of ENUM, proved (RFC 6116, section 3.4).
-use Rattle.std.proofs.Common.{◌≡◌, ℕ, ◌+◌, ◌<◌, ◌≤◌, Bool, false, ◌&&◌, ◌||◌, ◌==◌, cond, is_none, List, [], ◌∷◌, Option, Some, None, IsSome, option_map, refl, sym, ap, ◌∙◌, inl, inr, arith}
+use Rattle.std.proofs.Common.{◌≡◌, ℕ, ◌+◌, ◌<◌, ◌≤◌, false, ◌&&◌, ◌||◌, ◌==◌, cond, is_none, List, [], ◌∷◌, Option, IsSome, option_map, refl, sym, ap, ◌∙◌, inl, inr, arith}
 use Rattle.std.proofs.lemmas.Bool.{cases_eq, cases_lt, eq-eqb, ne_eqb, or_from, or_left, or_right}
 use Rattle.std.proofs.lemmas.Str.Ascii.{lowercase_is}
 use Rattle.enum_base.specs.Folding.{folded, folded_byte}
 use Rattle.service_field.specs.Faults.{services_fault}
 use Rattle.service_field.specs.Fitting.{items_serve}
 use Rattle.service_field.specs.Services.{services_items}
-use Rattle.service_field.specs.declared.fault.ServiceFault.{ServiceFault}
 use Rattle.service_field.specs.declared.kind.Kind.TheVariants.{TerminalUri, Unknown}
+use Rattle.service_field.proofs.ServeLemmas.{faulty}
 use Rattle.service_field.proofs.FoldLemmas.{serve_folded_services, serve_folded_wanted, services_fault_folds}
 use Rattle.enum_app.specs.App.{enum_fault, enum_kind, enum_serves}
 
@@ -49,11 +49,6 @@ serves_folded wanted services =
 -- the case of a wanted list is ignored
 pub serves_folded_wanted : (wanted : Option (List ℕ)) (services : List ℕ) → enum_serves (option_map folded wanted) services ≡ enum_serves wanted services
 serves_folded_wanted wanted services = ap (λ b. is_none (services_fault services) && b) (serve_folded_wanted wanted (services_items services))
-
--- a fault decides
-faulty : (o : Option ServiceFault) (b : Bool) → IsSome o → (is_none o && b) ≡ false
-faulty None b some = absurd (cc)
-faulty (Some f) b some = refl
 
 -- services with a fault serve nothing
 pub faulty_serves_nothing : (wanted : Option (List ℕ)) (services : List ℕ) → IsSome (enum_fault services) → enum_serves wanted services ≡ false

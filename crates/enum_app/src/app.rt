@@ -7,19 +7,10 @@ use service_field::{DddsApp, Kind, ServiceFault, Wanted, fits_enum, read_enum};
 pub struct EnumApp;
 
 impl DddsApp for EnumApp {
-    ghost use Rattle.std.specs.Prelude.{true, false};
-    ghost use Rattle.enum_app.specs.App.{enum_kind, enum_fault, enum_serves};
+    ghost use Rattle.enum_app.specs.App.{enum_meaning};
     ghost use Rattle.enum_app.specs.AppLaws.{kind_folds, serves_folded, serves_folded_wanted, faulty_serves_nothing};
 
-    ghost kinds = { λ app flags. enum_kind flags };
-
-    ghost serves = { λ app wanted services. enum_serves wanted services };
-
-    ghost service_faults = { λ app services. enum_fault services };
-
-    ghost steps_by_regexp = { λ app. true };
-
-    ghost wants_whole = { λ app. false };
+    ghost meaning = { λ app. enum_meaning };
 
     ghost kind_folds = { λ app flags. kind_folds flags };
 

@@ -8,6 +8,3 @@ mod number;
 pub use app::EnumApp;
 pub use laws::services_serve_where_they_fit;
 pub use number::{Number, NumberFault, default_apex};
-
-#[cfg(test)]
-mod tests;

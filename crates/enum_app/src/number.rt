@@ -1,12 +1,13 @@
 //! Telephone numbers and their keys.
-ghost use Rattle.std.specs.Prelude.{◌≡◌, ◌<◌, ◌≤◌, ◌↔◌, ℕ, List, [], ◌∷◌, length, IsTrue, IfSome, IfOk, IfErr, IsErr, OnOk, Some, Ok, Err};
+ghost use Rattle.std.specs.Prelude.{◌≡◌, ◌<◌, ◌≤◌, ◌↔◌, ℕ, List, [], ◌∷◌, length, IsTrue, IfSome, IfOk, IfErr, IsErr, OnOk, Some, Ok, Err, slice_get};
 ghost use Rattle.std.specs.Char.{is_ascii_digit};
 ghost use Rattle.dns_name.specs.Name.{wire_of, AreSame};
 ghost use Rattle.enum_app.specs.Digits.{AreDigits};
+ghost use Rattle.enum_app.specs.FaultWords.{number_fault};
 ghost use Rattle.enum_app.specs.Number.{IsNumber, HasNumberFault, digits_of, key_labels, labels_wire, e164_arpa, is_separator, plus};
 
 use dns_name::{Name, NameFault};
-use enum_base::Text255;
+use enum_base::{FaultWords, Text255, fault_at, fault_named};
 use std::marker::Model;
 
 /// The most digits of a number (RFC 6116, section 3.2).
@@ -23,6 +24,20 @@ pub enum NumberFault {
     TooLong { at: usize },
     /// The first byte that is neither digit nor separator is at this place.
     BadChar { at: usize },
+}
+
+impl NumberFault {
+    /// How it is printed: its name, and its place where it has one.
+    pub fn words(&self) -> FaultWords
+        ensures { result ≡ number_fault self.now }
+    {
+        match *self {
+            NumberFault::NoPlus => fault_named("NoPlus"),
+            NumberFault::NoDigit => fault_named("NoDigit"),
+            NumberFault::TooLong { at } => fault_at("TooLong", at),
+            NumberFault::BadChar { at } => fault_at("BadChar", at),
+        }
+    }
 }
 
 /// A telephone number. Contracts see its digits, 1 to 15 of them (RFC 6116, section 3.2).
@@ -59,7 +74,7 @@ impl Number {
         ensures each_number { IsNumber text.now → result ≡ Ok (digits_of text.now) }
         ensures each_fault { (fault : NumberFault) → HasNumberFault text.now fault → result ≡ Err fault }
     {
-        read(text)
+        parse_inner(text)
     }
 
     /// The number whose key under that apex is that name, without regard to case (RFC 4343), or `None`
@@ -106,22 +121,19 @@ impl Number {
     {
         let mut name = *apex;
         for digit in self.digits() {
-            name = match with_digit(*digit, &name) {
-                Ok(longer) => longer,
-                Err(fault) => return Err(fault),
-            };
+            name = with_digit(*digit, &name)?;
         }
         Ok(name)
     }
 }
 
 // The number that a text spells, or its first fault by place.
-fn read(text: &[u8]) -> Result<Number, NumberFault>
+fn parse_inner(text: &[u8]) -> Result<Number, NumberFault>
     ensures number { IfOk result (λ number. IsNumber text.now) }
     ensures digits { IfOk result (λ number. number ≡ digits_of text.now) }
     ensures fault { IfErr result (HasNumberFault text.now) }
 {
-    if text.first() != Some(&b'+') {
+    if !has_sign(text) {
         return Err(NumberFault::NoPlus);
     }
     let mut row = [0; MOST_DIGITS];
@@ -145,6 +157,12 @@ fn read(text: &[u8]) -> Result<Number, NumberFault>
         row,
         len: len as u8,
     })
+}
+
+fn has_sign(text: &[u8]) -> bool
+    ensures { IsTrue result ↔ (slice_get text.now 0 ≡ Some plus) }
+{
+    text.first() == Some(&b'+')
 }
 
 // The number whose digits, the last one first, are the labels of these wire bytes.

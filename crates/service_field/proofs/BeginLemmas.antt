@@ -4,7 +4,7 @@ use Rattle.std.proofs.lemmas.List.{length-map, length-take}
 use Rattle.std.proofs.lemmas.Str.Ascii.{lowercase_is}
 use Rattle.std.specs.List.{onto_first}
 use Rattle.enum_base.specs.Folding.{folded, folded_byte}
-use Rattle.service_field.specs.Services.{colon, tags_of}
+use Rattle.service_field.specs.Tags.{colon, tags_of}
 use Rattle.service_field.specs.Fitting.{begins, ends, same_tag}
 use Rattle.service_field.proofs.SplitLemmas.{some_part}
 

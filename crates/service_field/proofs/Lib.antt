@@ -1,6 +1,8 @@
 pub mod BeginLemmas
 pub mod FitLemmas
 pub mod FoldLemmas
+pub mod PartLemmas
+pub mod ServeLemmas
 pub mod SpellLemmas
 pub mod SplitLemmas
 pub mod TagLemmas

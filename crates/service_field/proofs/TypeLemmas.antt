@@ -1,7 +1,8 @@
 use Rattle.std.proofs.Common.{◌≡◌, ℕ, zero, suc, ◌<◌, ◌≤◌, true, false, List, [], ◌∷◌, length, Option, Some, None, option_map, slice_get, refl, sym, ap, ◌∙◌, arith}
 use Rattle.std.proofs.lemmas.List.{length-map}
 use Rattle.std.proofs.lemmas.Option.{slice_get-map}
-use Rattle.service_field.specs.Services.{Item, first_tag, items_of, plus, tags_of}
+use Rattle.service_field.specs.Tags.{Item, first_tag, items_of, tags_of}
+use Rattle.service_field.specs.Services.{plus}
 use Rattle.service_field.proofs.SplitLemmas.{cut}
 
 get_some : (xs : List (List ℕ)) (k : ℕ) (x : List ℕ) → Some x ≡ slice_get xs k → k < length xs

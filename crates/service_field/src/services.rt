@@ -3,12 +3,16 @@ ghost use Rattle.std.specs.Prelude.{◌≡◌, ◌≤◌, ◌↔◌, List, Some,
 ghost use Rattle.std.specs.Result.{result_err};
 ghost use Rattle.std.specs.List.{list_any};
 ghost use Rattle.service_field.specs.Fitting.{begins};
-ghost use Rattle.service_field.specs.Services.{Item, SpellsServices, first_tag, plus, tags_of};
-ghost use Rattle.service_field.specs.Faults.{services_fault, tags_fault};
+ghost use Rattle.service_field.specs.Tags.{AreItems, IsItem, Item, first_tag, tags_of};
+ghost use Rattle.service_field.specs.Services.{SpellsServices};
+ghost use Rattle.service_field.specs.Faults.{form_fault, services_fault};
+ghost use Rattle.service_field.specs.declared.alphabet.Alphabet.TheVariants.{Enum};
+ghost use Rattle.service_field.specs.declared.form.Form.TheVariants.{EnumItems};
 
 use crate::ServiceFault;
 use crate::fitting::begins;
-use crate::tags::tags_fault;
+use crate::form::Form;
+use crate::tags::first_tag;
 use enum_base::same_folded;
 use std::marker::Model;
 
@@ -22,11 +26,15 @@ pub struct EnumServices<'a> {
 // Clauses see the items, each a list of tags.
 impl<'a> Model for EnumServices<'a> {
     ghost use Rattle.std.specs.Prelude.{List, ℕ};
-    ghost use Rattle.service_field.specs.Services.{items_of, plus};
+    ghost use Rattle.service_field.specs.Tags.{AreItems, IsItem, items_of};
+    ghost use Rattle.service_field.specs.Services.{plus};
+    ghost use Rattle.service_field.specs.declared.alphabet.Alphabet.TheVariants.{Enum};
 
     ghost Value = { List (List (List ℕ)) };
 
     ghost view = { λ s. items_of plus s.items.now };
+
+    ghost invariant = { λ s. AreItems (IsItem Enum) (items_of plus s.items.now) };
 }
 
 /// Reads the services of an ENUM rule: `E2U` in any case, and then items, each behind a `+`, of tags with
@@ -39,11 +47,8 @@ pub fn read_enum(text: &[u8]) -> Result<EnumServices<'_>, ServiceFault>
     // What is spelled so is read.
     ensures only { (items : List Item) → SpellsServices text.now items → result ≡ Ok items }
 {
-    let items = match behind_e2u(text) {
-        Ok(items) => items,
-        Err(fault) => return Err(fault),
-    };
-    match tags_fault(b'+', 4, items) {
+    let items = behind_e2u(text)?;
+    match Form::EnumItems.fault(4, items) {
         Some(fault) => Err(fault),
         None => Ok(EnumServices { items }),
     }
@@ -52,7 +57,7 @@ pub fn read_enum(text: &[u8]) -> Result<EnumServices<'_>, ServiceFault>
 // What stands behind `E2U+`, or the first fault of these four bytes.
 fn behind_e2u(text: &[u8]) -> Result<&[u8], ServiceFault>
     ensures { MatchResult result
-        (λ items. (items.now ≡ drop 4 text.now) × (services_fault text.now ≡ tags_fault plus 4 items.now))
+        (λ items. (items.now ≡ drop 4 text.now) × (services_fault text.now ≡ form_fault EnumItems 4 items.now))
         (λ fault. services_fault text.now ≡ Some fault) }
 {
     if text.is_empty() {
@@ -74,6 +79,8 @@ impl<'a> EnumServices<'a> {
     pub fn type_at(&self, k: usize) -> Option<&[u8]>
         ensures value { option_map (λ tag. tag.now) result ≡ option_map first_tag (slice_get self.now k) }
         ensures none { IsNone result ↔ (length self.now ≤ k) }
+        // What services are: items in a row.
+        ensures items { AreItems (IsItem Enum) self.now }
     {
         match self.items.split(|b| *b == b'+').nth(k) {
             Some(item) => Some(first_tag(item)),
@@ -89,12 +96,4 @@ impl<'a> EnumServices<'a> {
             .split(|b| *b == b'+')
             .any(|item| begins(tags, item))
     }
-}
-
-// The first tag of an item.
-fn first_tag(item: &[u8]) -> &[u8]
-    ensures { result.now ≡ first_tag (tags_of item.now) }
-{
-    let end = item.iter().position(|b| *b == b':').unwrap_or(item.len());
-    &item[..end]
 }

@@ -1,101 +1,103 @@
-//! Tags, and the first fault of tags in a row.
-ghost use Rattle.std.specs.Prelude.{◌≡◌, ◌+◌, ◌^◌, ◌<◌, ◌≤◌, length};
-ghost use Rattle.std.specs.List.{list_all, position_or_len};
-ghost use Rattle.service_field.specs.Services.{is_tag_byte, tags_of};
-ghost use Rattle.service_field.specs.Faults.{ends_tag, part_fault, run_of, tags_fault};
-ghost use Rattle.service_field.specs.Fitting.{is_item, is_tag};
+//! Tags, and items made of tags.
+ghost use Rattle.std.specs.Prelude.{◌≡◌, ◌==◌, ◌+◌, ◌^◌, ◌<◌, ◌≤◌, ◌∷◌, [], length, position, MatchOption};
+ghost use Rattle.service_field.specs.Faults.{pair_fault, run_of, tag_fault};
+ghost use Rattle.service_field.specs.Fitting.{is_item, is_pair, is_tag};
+ghost use Rattle.service_field.specs.Tags.{colon, cut_once, first_tag, tags_of};
 
 use crate::ServiceFault;
+use crate::alphabet::Alphabet;
 
-/// The most bytes of a tag (RFC 6116, section 3.4.3).
+/// The most bytes of a tag (RFC 6116, section 3.4.3; RFC 3958, section 6.5).
 const MOST_TAG_BYTES: usize = 32;
 
-/// The first fault of bytes that are to be tags, with a colon or the separator between them; they begin
-/// at a place of the whole text.
-pub(crate) fn tags_fault(separator: u8, at: usize, text: &[u8]) -> Option<ServiceFault>
-    requires { at ≤ 4 }
-    ensures { result ≡ tags_fault separator at text.now }
-{
-    let mut at = at;
-    let mut rest = text;
-    loop {
-        let (part, more) = rest.split_at(part_len(separator, rest));
-        if let Some(fault) = part_fault(at, part) {
-            return Some(fault);
-        }
-        let [_, next @ ..] = more else {
-            return None;
-        };
-        at += part.len() + 1;
-        rest = next;
-    }
-}
-
-// How many bytes stand before the first colon or separator.
-fn part_len(separator: u8, text: &[u8]) -> usize
-    ensures value { result ≡ position_or_len (ends_tag separator) text.now }
+// How many bytes of a tag a text begins with.
+fn run_len(alphabet: Alphabet, text: &[u8]) -> usize
+    ensures value { result ≡ run_of alphabet text.now }
     ensures within { result ≤ length text.now }
 {
     text.iter()
-        .position(|b| ends_tag(separator, *b))
+        .position(|b| !alphabet.is_tag_byte(*b))
         .unwrap_or(text.len())
 }
 
-fn ends_tag(separator: u8, b: u8) -> bool
-    ensures { result ≡ ends_tag separator b }
+/// The fault of a text that is to be one tag, and begins at a place of the whole text.
+pub(crate) fn tag_fault(alphabet: Alphabet, at: usize, text: &[u8]) -> Option<ServiceFault>
+    requires { at + length text.now < 2 ^ 64 }
+    ensures { result ≡ tag_fault alphabet at text.now }
 {
-    b == b':' || b == separator
-}
-
-// How many bytes of tags a part begins with.
-fn run_len(part: &[u8]) -> usize
-    ensures value { result ≡ run_of part.now }
-    ensures within { result ≤ length part.now }
-{
-    part.iter()
-        .position(|b| !is_tag_byte(*b))
-        .unwrap_or(part.len())
-}
-
-// The fault of bytes that are to be one tag, and begin at a place of the whole text.
-fn part_fault(at: usize, part: &[u8]) -> Option<ServiceFault>
-    requires { at + length part.now < 2 ^ 64 }
-    ensures { result ≡ part_fault at part.now }
-{
-    let run = run_len(part);
-    if run == 0 {
+    let run = run_len(alphabet, text);
+    if !alphabet.begins_tag(text) {
         Some(ServiceFault::BadTag { at })
     } else if run > MOST_TAG_BYTES {
         Some(ServiceFault::TagTooLong { at })
-    } else if run < part.len() {
+    } else if run < text.len() {
         Some(ServiceFault::Trailing { at: at + run })
     } else {
         None
     }
 }
 
-fn is_tag_byte(b: u8) -> bool
-    ensures { result ≡ is_tag_byte b }
+/// The fault of a text that is to be a service and at most one protocol, and begins at a place of the whole text.
+pub(crate) fn pair_fault(at: usize, text: &[u8]) -> Option<ServiceFault>
+    requires { at + length text.now < 2 ^ 64 }
+    ensures { result ≡ pair_fault at text.now }
 {
-    b.is_ascii_alphanumeric() || b == b'-'
+    let (service, protocol) = halves(text);
+    match tag_fault(Alphabet::Snaptr, at, service) {
+        Some(fault) => Some(fault),
+        None => match protocol {
+            Some(protocol) => tag_fault(Alphabet::Snaptr, at + service.len() + 1, protocol),
+            None => None,
+        },
+    }
+}
+
+// What stands before the first colon, and behind it where there is one.
+fn halves(text: &[u8]) -> (&[u8], Option<&[u8]>)
+    ensures cut { MatchOption result.1 (cut_once text.now ≡ result.0.now ∷ [])
+        (λ behind. cut_once text.now ≡ result.0.now ∷ behind.now ∷ []) }
+    ensures within { MatchOption result.1 (length result.0.now ≤ length text.now)
+        (λ behind. length result.0.now + 1 + length behind.now ≡ length text.now) }
+{
+    match colon_place(text) {
+        Some(n) => (&text[..n], Some(&text[n + 1..])),
+        None => (text, None),
+    }
+}
+
+// The place of the first colon.
+fn colon_place(text: &[u8]) -> Option<usize>
+    ensures { result ≡ position (λ b. b == colon) text.now }
+{
+    text.iter().position(|b| *b == b':')
+}
+
+/// The first tag of an item.
+pub(crate) fn first_tag(text: &[u8]) -> &[u8]
+    ensures { result.now ≡ first_tag (tags_of text.now) }
+{
+    match colon_place(text) {
+        Some(n) => &text[..n],
+        None => text,
+    }
 }
 
 /// Whether the bytes are tags with a colon between them.
-pub(crate) fn is_item(text: &[u8]) -> bool
-    ensures { result ≡ is_item (tags_of text.now) }
+pub(crate) fn is_item(alphabet: Alphabet, text: &[u8]) -> bool
+    ensures { result ≡ is_item alphabet (tags_of text.now) }
 {
-    text.split(|b| *b == b':').all(|tag| is_tag(tag))
+    text.split(|b| *b == b':').all(|tag| is_tag(alphabet, tag))
 }
 
-fn is_tag(text: &[u8]) -> bool
-    ensures { result ≡ is_tag text.now }
+fn is_tag(alphabet: Alphabet, text: &[u8]) -> bool
+    ensures { result ≡ is_tag alphabet text.now }
 {
-    let size = text.len();
-    size > 0 && size <= MOST_TAG_BYTES && are_tag_bytes(text)
+    tag_fault(alphabet, 0, text).is_none()
 }
 
-fn are_tag_bytes(text: &[u8]) -> bool
-    ensures { result ≡ list_all is_tag_byte text.now }
+/// Whether the bytes are a service and at most one protocol.
+pub(crate) fn is_pair(text: &[u8]) -> bool
+    ensures { result ≡ is_pair (tags_of text.now) }
 {
-    text.iter().all(|b| is_tag_byte(*b))
+    pair_fault(0, text).is_none()
 }

@@ -3,7 +3,8 @@ use Rattle.std.proofs.lemmas.Iterator.Search.{any_from_yields_List}
 use Rattle.std.proofs.lemmas.Iterator.Splits.{YieldsList-from_slice_split}
 use Rattle.std.specs.List.{list_any}
 use Rattle.service_field.specs.Fitting.{begins}
-use Rattle.service_field.specs.Services.{plus, tags_of}
+use Rattle.service_field.specs.Services.{plus}
+use Rattle.service_field.specs.Tags.{tags_of}
 use Rattle.service_field.proofs.SplitLemmas.{any_of_map, cut}
 use Rattle.service_field.proofs.services.EnumServices.has_item.Goals as goal
 

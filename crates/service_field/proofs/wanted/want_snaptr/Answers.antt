@@ -1,0 +1,13 @@
+use Rattle.std.proofs.Common.{refl, sym}
+use Rattle.service_field.proofs.SpellLemmas.{faulty_spells_no_pairs, snaptr_wanted_read, snaptr_wanted_spelled}
+use Rattle.service_field.proofs.wanted.want_snaptr.Goals as goal
+
+pub returns-in_err-read-clause-only : goal.returns-in_err-read-clause-only
+returns-in_err-read-clause-only c =
+    λ items spelled. faulty_spells_no_pairs c.args.text.now items c.in_err-read.field-0.0 (sym c.in_err-read.ensures.fault) spelled
+
+pub returns-clause-spelled : goal.returns-clause-spelled
+returns-clause-spelled c = snaptr_wanted_spelled c.args.text.now (sym c.in_ok-read.ensures.fault)
+
+pub returns-clause-only : goal.returns-clause-only
+returns-clause-only c = λ items spelled. (refl, (snaptr_wanted_read c.args.text.now items spelled).1)
