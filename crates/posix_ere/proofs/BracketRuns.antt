@@ -17,8 +17,8 @@ use Rattle.posix_ere.specs.declared.class.Class.{Class}
 use Rattle.posix_ere.specs.declared.class.Class.TheVariants as class
 use Rattle.posix_ere.specs.declared.bracket.Phase.{Phase}
 use Rattle.posix_ere.specs.declared.bracket.Phase.TheVariants as phase
-use Rattle.posix_ere.specs.declared.bracket.Listing.{Listing}
-use Rattle.posix_ere.specs.declared.bracket.Listing.TheVariants as listing
+use Rattle.posix_ere.specs.BracketMachine.{Listing}
+use Rattle.posix_ere.specs.BracketMachine.{Listing as listing}
 use Rattle.posix_ere.specs.declared.frame.Mode.TheVariants as mode
 use Rattle.posix_ere.proofs.Runs.{run_one}
 use Rattle.posix_ere.proofs.IntervalRuns.{both}

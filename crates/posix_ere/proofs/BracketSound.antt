@@ -1,15 +1,15 @@
 -- What the machine has read of a bracket.
-use Rattle.std.proofs.Common.{ℕ, zero, suc, ◌≡◌, ◌≢◌, ◌+◌, ◌<◌, ◌≤◌, Bool, true, false, not, ◌&&◌, ◌||◌, ◌==◌, List, [], ◌∷◌, ◌++◌, length, take, drop, get_or, refl, sym, ◌∙◌, ap, subst, arith, ◌⊎◌, inl, inr, Option, Some, None, append_assoc, nat_le, nat_lt}
+use Rattle.std.proofs.Common.{ℕ, ◌≡◌, ◌≢◌, ◌+◌, ◌<◌, ◌≤◌, Bool, true, false, not, ◌&&◌, ◌||◌, ◌==◌, List, [], ◌∷◌, ◌++◌, length, take, drop, refl, sym, ◌∙◌, ap, subst, arith, ◌⊎◌, inl, inr, Option, Some, None, append_assoc, nat_le, nat_lt}
 use Rattle.std.specs.Prelude.{if◌then◌else◌}
 use Rattle.std.proofs.lemmas.Bool.Decides.{nat_tests}
 use Rattle.std.proofs.lemmas.List.{append-nil}
 use Rattle.std.proofs.Math.Seq.{take-length}
 use Rattle.posix_ere.specs.Ascii.{is_printable}
-use Rattle.posix_ere.specs.Reasons.{InItems, IsItemPart}
+use Rattle.posix_ere.specs.Reasons.{InItems, IsUndecided}
 use Rattle.std.proofs.lemmas.List.{take-append-drop}
 use Rattle.posix_ere.specs.Bracket.{Item, IsBracket, name_of, spelled, body, sign, begins, goes_on_as_range, is_element, is_item, are_items, opens}
 use Rattle.posix_ere.specs.Bracket.Item.{single, range, members}
-use Rattle.posix_ere.specs.BracketMachine.{marked, phase_step, begin_item, list_step, element_step, named, first_class, next_class, turned, at_phase, class_fault}
+use Rattle.posix_ere.specs.BracketMachine.{marked, phase_step, begin_item, list_step, element_step, named, next_class, at_phase, reason_at}
 use Rattle.posix_ere.specs.Machine.{no_marks}
 use Rattle.posix_ere.specs.declared.why.Why.{Why}
 use Rattle.posix_ere.specs.declared.why.Why.TheVariants as w
@@ -18,9 +18,10 @@ use Rattle.posix_ere.specs.declared.class.Class.TheVariants as class
 use Rattle.posix_ere.specs.declared.bracket.Bracket.{Bracket}
 use Rattle.posix_ere.specs.declared.bracket.Phase.{Phase}
 use Rattle.posix_ere.specs.declared.bracket.Phase.TheVariants as phase
-use Rattle.posix_ere.specs.declared.bracket.Listing.{Listing}
-use Rattle.posix_ere.specs.declared.bracket.Listing.TheVariants as listing
+use Rattle.posix_ere.specs.BracketMachine.{Listing}
+use Rattle.posix_ere.specs.BracketMachine.{Listing as listing}
 use Rattle.posix_ere.proofs.IntervalRuns.{both}
+use Rattle.posix_ere.proofs.ClassNames.{next_letter, name_short}
 use Rattle.posix_ere.proofs.BracketRuns.{marks_on, head, is_not, same_byte, other_byte, not_same, same_or_not, class_head}
 
 -- whether no item was read yet
@@ -38,7 +39,6 @@ tail (phase.Dash e) = e ∷ 45 ∷ []
 tail phase.Inner = 91 ∷ []
 tail (phase.RangeInner e) = e ∷ 45 ∷ 91 ∷ []
 tail phase.Last = 45 ∷ []
-tail phase.ClassStart = 91 ∷ 58 ∷ []
 tail (phase.ClassName c k) = 91 ∷ 58 ∷ take k (name_of c)
 tail (phase.ClassEnd c) = 91 ∷ 58 ∷ (name_of c ++ 58 ∷ [])
 
@@ -58,8 +58,7 @@ PhaseFits negated first (phase.Dash e) = Opener negated first e
 PhaseFits negated first phase.Inner = Unit {0}
 PhaseFits negated first (phase.RangeInner e) = Opener negated first e × (e ≤ 91)
 PhaseFits negated first phase.Last = first ≡ false
-PhaseFits negated first phase.ClassStart = Unit {0}
-PhaseFits negated first (phase.ClassName c k) = (1 ≤ k) × (k ≤ length (name_of c))
+PhaseFits negated first (phase.ClassName c k) = (k ≤ length (name_of c)) × (length (name_of c) ≤ k + 5)
 PhaseFits negated first (phase.ClassEnd c) = Unit {0}
 
 pub record Listed (z : List ℕ) (negated : Bool) (marks : List Bool) (p : Phase) : Type 0 where
@@ -95,6 +94,18 @@ items_more first (j ∷ is) i r h v =
     and_true (is_item first j (body (is ++ i ∷ []) ++ r)) (are_items false (is ++ i ∷ []) r) x (items_more false is i r a.1 y)
   where
     not_first : (f : Bool) → false ≡ (f && false)
+    not_first true = refl
+    not_first false = refl
+
+-- the last item may stand where it stands
+pub last_item : (first : Bool) (is : List Item) (i : Item) (r : List ℕ) → are_items first (is ++ i ∷ []) r ≡ true → is_item (first && fresh is) i r ≡ true
+last_item true [] i r h = (both (is_item true i r) true h).0
+last_item false [] i r h = (both (is_item false i r) true h).0
+last_item first (j ∷ is) i r h =
+    let a = both (is_item first j (body (is ++ i ∷ []) ++ r)) (are_items false (is ++ i ∷ []) r) h in
+    ap (λ f. is_item f i r) (not_first first) ∙ last_item false is i r a.1
+  where
+    not_first : (f : Bool) → (f && false) ≡ false
     not_first true = refl
     not_first false = refl
 
@@ -271,24 +282,6 @@ closed_two z b negated marks e l h =
 below_len : (a b : ℕ) → nat_lt a b ≡ true → a < b
 below_len a b h = grind (arith, nat_tests)
 
--- whether the beginning of an item is no closing
-pub opener_closes : (is : List Item) (negated : Bool) (e : ℕ) → Opener negated (fresh is) e → (e == 93) ≡ true → is ≡ []
-opener_closes [] negated e o h = refl
-opener_closes (i ∷ is) negated e o h = absurd (o.closes refl (same_byte e 93 h))
-
-pub tail_unclosed : (is : List Item) (negated : Bool) (p : Phase) → PhaseFits negated (fresh is) p → begins (λ b. b == 93) (tail p) ≡ true → is ≡ []
-tail_unclosed is negated phase.Start f h = absurd (cc)
-tail_unclosed is negated phase.First f h = absurd (cc)
-tail_unclosed is negated phase.Next f h = absurd (cc)
-tail_unclosed is negated (phase.Element e) f h = opener_closes is negated e f.0 h
-tail_unclosed is negated (phase.Dash e) f h = opener_closes is negated e f h
-tail_unclosed is negated phase.Inner f h = absurd (cc)
-tail_unclosed is negated (phase.RangeInner e) f h = opener_closes is negated e f.0 h
-tail_unclosed is negated phase.Last f h = absurd (cc)
-tail_unclosed is negated phase.ClassStart f h = absurd (cc)
-tail_unclosed is negated (phase.ClassName c k) f h = absurd (cc)
-tail_unclosed is negated (phase.ClassEnd c) f h = absurd (cc)
-
 pub name_again : (c : Class) (k : ℕ) → name_of c ++ 58 ∷ 93 ∷ [] ≡ take k (name_of c) ++ (drop k (name_of c) ++ 58 ∷ 93 ∷ [])
 name_again c k =
     ap (λ x. x ++ 58 ∷ 93 ∷ []) (sym (take-append-drop k (name_of c))) ∙ append_assoc (take k (name_of c)) (drop k (name_of c)) (58 ∷ 93 ∷ [])
@@ -297,29 +290,91 @@ some_left : (xs : List ℕ) (y : ℕ) (ys : List ℕ) → xs ++ y ∷ ys ≡ [] 
 some_left [] y ys e = cc
 some_left (x ∷ xs) y ys e = cc
 
-pub tail_part : (p : Phase) → IsItemPart (tail p)
-tail_part phase.Start = inl (single 97, 97 ∷ [], refl, some_left [] 97 [])
-tail_part phase.First = inl (single 97, 97 ∷ [], refl, some_left [] 97 [])
-tail_part phase.Next = inl (single 97, 97 ∷ [], refl, some_left [] 97 [])
-tail_part (phase.Element e) = inl (range e e, 45 ∷ e ∷ [], refl, some_left [] 45 (e ∷ []))
-tail_part (phase.Dash e) = inl (range e e, e ∷ [], refl, some_left [] e [])
-tail_part phase.Inner = inl (range 91 91, 45 ∷ 91 ∷ [], refl, some_left [] 45 (91 ∷ []))
-tail_part (phase.RangeInner e) = inr (e, refl)
-tail_part phase.Last = inl (range 45 45, 45 ∷ 45 ∷ [], refl, some_left [] 45 (45 ∷ []))
-tail_part phase.ClassStart = inl (members class.Alpha, name_of class.Alpha ++ 58 ∷ 93 ∷ [], refl, some_left (name_of class.Alpha) 58 (93 ∷ []))
-tail_part (phase.ClassName c k) =
-    inl (members c, drop k (name_of c) ++ 58 ∷ 93 ∷ [], ap (λ x. 91 ∷ 58 ∷ x) (name_again c k), some_left (drop k (name_of c)) 58 (93 ∷ []))
-tail_part (phase.ClassEnd c) = inl (members c, 93 ∷ [], ap (λ x. 91 ∷ 58 ∷ x) (sym (append_assoc (name_of c) (58 ∷ []) (93 ∷ []))), some_left [] 93 [])
+or_true : (v : Bool) → (v || true) ≡ true
+or_true true = refl
+or_true false = refl
+
+bracket_opener : (negated first : Bool) → Opener negated first 91
+bracket_opener negated first = record {
+  printable = refl;
+  closes = λ f e. absurd (omega arith);
+  hyphen = λ f. class_head;
+  circumflex = λ f. or_true negated;
+}
+
+-- the item that was begun
+pub record Begun (negated : Bool) (is : List Item) (y : List ℕ) : Type 0 where
+  pub item : Item
+  pub rest : List ℕ
+  pub spells : spelled item ≡ y ++ rest
+  pub stands : opens negated (is ++ item ∷ []) (93 ∷ []) ≡ true
+  pub left : rest ≡ [] → IsUndecided y
+
+begun : (negated : Bool) (is : List Item) (y : List ℕ) (i : Item) (r : List ℕ) → ((x : List ℕ) → opens negated is (y ++ x) ≡ true) → spelled i ≡ y ++ r
+    → is_item (fresh is) i (93 ∷ []) ≡ true → (fresh is ≡ true → (negated || not (head i == 94)) ≡ true) → (r ≡ [] → IsUndecided y) → Begun negated is y
+begun negated is y i r h e v g u = record {
+  item = i;
+  rest = r;
+  spells = e;
+  stands = opens_more negated is i (93 ∷ [])
+      (ap (opens negated is) (ap (λ x. x ++ 93 ∷ []) e ∙ append_assoc y r (93 ∷ [])) ∙ h (r ++ 93 ∷ [])) v g;
+  left = u;
+}
+
+most_printable : (e : ℕ) → is_printable e ≡ true → e ≤ 126
+most_printable e h = grind (arith, nat_tests)
+
+letter_item : (first : Bool) → is_item first (single 97) (93 ∷ []) ≡ true
+letter_item true = refl
+letter_item false = refl
+
+letter_begun : (negated : Bool) (is : List Item) → ((x : List ℕ) → opens negated is x ≡ true) → Begun negated is []
+unfolding head
+letter_begun negated is h = begun negated is [] (single 97) (97 ∷ []) h refl (letter_item (fresh is)) (λ f. or_true negated) (λ e. absurd (cc))
+
+pub tail_begun : (negated : Bool) (is : List Item) (p : Phase) → ((x : List ℕ) → opens negated is (tail p ++ x) ≡ true) → PhaseFits negated (fresh is) p
+    → Begun negated is (tail p)
+unfolding head
+tail_begun negated is phase.Start h f = letter_begun negated is h
+tail_begun negated is phase.First h f = letter_begun negated is h
+tail_begun negated is phase.Next h f = letter_begun negated is h
+tail_begun negated is (phase.Element e) h f =
+    begun negated is (e ∷ []) (range e 126) (45 ∷ 126 ∷ []) h refl
+    (opener_range negated (fresh is) e 126 (93 ∷ []) f.0 refl (most_printable e f.0.printable)) f.0.circumflex (λ x. absurd (cc))
+tail_begun negated is (phase.Dash e) h f =
+    begun negated is (e ∷ 45 ∷ []) (range e 126) (126 ∷ []) h refl
+    (opener_range negated (fresh is) e 126 (93 ∷ []) f refl (most_printable e f.printable)) f.circumflex (λ x. absurd (cc))
+tail_begun negated is phase.Inner h f =
+    let o = bracket_opener negated (fresh is) in
+    begun negated is (91 ∷ []) (range 91 126) (45 ∷ 126 ∷ []) h refl
+    (opener_range negated (fresh is) 91 126 (93 ∷ []) o refl (omega arith)) o.circumflex (λ x. absurd (cc))
+tail_begun negated is (phase.RangeInner e) h f =
+    begun negated is (e ∷ 45 ∷ 91 ∷ []) (range e 91) [] h refl
+    (opener_range negated (fresh is) e 91 (93 ∷ []) f.0 refl f.1) f.0.circumflex (λ x. inr (e, refl))
+tail_begun negated is phase.Last h f =
+    begun negated is (45 ∷ []) (single 45) [] h refl (ap (λ x. is_item x (single 45) (93 ∷ [])) f)
+    (λ x. absurd (let g : true ≡ false = sym x ∙ f in cc)) (λ x. inl refl)
+tail_begun negated is (phase.ClassName c k) h f =
+    begun negated is (91 ∷ 58 ∷ take k (name_of c)) (members c) (drop k (name_of c) ++ 58 ∷ 93 ∷ []) h (ap (λ x. 91 ∷ 58 ∷ x) (name_again c k)) refl
+    (λ x. or_true negated) (λ x. absurd (some_left (drop k (name_of c)) 58 (93 ∷ []) x))
+tail_begun negated is (phase.ClassEnd c) h f =
+    begun negated is (91 ∷ 58 ∷ (name_of c ++ 58 ∷ [])) (members c) (93 ∷ []) h
+    (ap (λ x. 91 ∷ 58 ∷ x) (sym (append_assoc (name_of c) (58 ∷ []) (93 ∷ [])))) refl (λ x. or_true negated) (λ x. absurd (cc))
 
 abbrev pub part_of : (z : List ℕ) (negated : Bool) (marks : List Bool) (p : Phase) → Listed z negated marks p → InItems z (tail p)
-part_of z negated marks p l = record {
-  negated = negated;
-  is = l.is;
-  text = l.text;
-  items = l.items;
-  part = tail_part p;
-  unclosed = tail_unclosed l.is negated p l.fits;
-}
+part_of z negated marks p l =
+    let b = tail_begun negated l.is p l.items l.fits in
+    record {
+      negated = negated;
+      is = l.is;
+      text = l.text;
+      items = l.items;
+      begun = b.item;
+      rest = b.rest;
+      spells = b.spells;
+      stands = b.stands;
+      left = b.left;
+    }
 
 -- inside a class name or its closing
 abbrev pub ClassWhy : List ℕ → Type 0
@@ -439,8 +494,12 @@ ready_emitted z b negated marks p i l t v c g = record {
   circumflex = λ f. absurd (cc);
 }
 
+or_right : (p q : Bool) → q ≡ true → (p || q) ≡ true
+or_right true q h = refl
+or_right false q h = h
+
 start_sound : (z : List ℕ) (b : ℕ) (negated : Bool) (marks : List Bool) (x : Bool) → Listed z negated marks phase.Start → (b == 94) ≡ x
-    → Outcome z b (if x then at_phase true marks phase.First else begin_item true false marks b)
+    → Outcome z b (if x then at_phase true marks phase.First else begin_item true negated marks b)
 start_sound z b negated marks true l h = started z b negated marks l.is l.text l.marks_are l.fits (same_byte b 94 h)
   where
     started : (z : List ℕ) (b : ℕ) (negated : Bool) (marks : List Bool) (is : List Item) → z ≡ sign negated ++ (body is ++ []) → marks ≡ marks_on is no_marks
@@ -454,9 +513,8 @@ start_sound z b negated marks true l h = started z b negated marks l.is l.text l
     }
     started z b negated marks (i ∷ is) t m (f, g) h = absurd (cc)
 start_sound z b negated marks false l h =
-    let l2 : Listed z false marks phase.Start = subst (λ x. Listed z x marks phase.Start) l.fits.1 l in
-    begin_sound z b false marks true (b == 93) (b == 91)
-    (ready_kept z b false marks phase.Start true l2 refl l2.fits.0 (λ f. absurd (cc)) (λ f. not_is (b == 94) h)) refl refl
+    begin_sound z b negated marks true (b == 93) (b == 91)
+    (ready_kept z b negated marks phase.Start true l refl l.fits.0 (λ f. absurd (cc)) (λ f. or_right negated (not (b == 94)) (not_is (b == 94) h))) refl refl
 
 -- an element that ends, or begins a range
 element_sound : (z : List ℕ) (b : ℕ) (negated : Bool) (marks : List Bool) (p : Phase) (e : ℕ) (l : Listed z negated marks p) (x : Bool) → tail p ≡ e ∷ []
@@ -495,24 +553,12 @@ dash_sound z b negated marks e l false true false false f g h i =
     (λ r. opener_range negated (fresh l.is) e b r l.fits (range_end b r g (not_same b 93 f) (λ x. absurd (not_same b 91 i x))) (not_less_than b e h))
     l.fits.circumflex refl
 
-bracket_opener : (negated first : Bool) → Opener negated first 91
-bracket_opener negated first = record {
-  printable = refl;
-  closes = λ f e. close_bracket (sym e);
-  hyphen = λ f. class_head;
-  circumflex = λ f. or_true negated;
-}
-  where
-    or_true : (v : Bool) → (v || true) ≡ true
-    or_true true = refl
-    or_true false = refl
-
 inner_sound : (z : List ℕ) (b : ℕ) (negated : Bool) (marks : List Bool) (l : Listed z negated marks phase.Inner) (m c : Bool)
     → (b == 46 || b == 61) ≡ m → (b == 58) ≡ c
-    → Outcome z b (if m then listing.Broken w.Collating else (if c then at_phase negated marks phase.ClassStart else element_step 91 negated marks b))
+    → Outcome z b (if m then listing.Broken w.Collating else (if c then at_phase negated marks (phase.ClassName class.Alnum 0) else element_step 91 negated marks b))
 inner_sound z b negated marks l true c f g = (mark_printable b f, f, inl (part_of z negated marks phase.Inner l))
 inner_sound z b negated marks l false true f g =
-    kept z negated marks phase.Inner phase.ClassStart b l (ap (λ y. 91 ∷ y ∷ []) (same_byte b 58 g)) tt
+    kept z negated marks phase.Inner (phase.ClassName class.Alnum 0) b l (ap (λ y. 91 ∷ y ∷ []) (same_byte b 58 g)) (omega arith, omega arith)
 inner_sound z b negated marks l false false f g =
     element_sound z b negated marks phase.Inner 91 l (b == 45) refl (bracket_opener negated (fresh l.is)) (λ x. neither (b == 46 || b == 61) (b == 58) f g) refl
   where
@@ -535,17 +581,13 @@ range_inner_sound z b negated marks e l false false f g =
     (λ y. opener_range negated (fresh l.is) e 91 (93 ∷ []) l.fits.0 refl l.fits.1) l.fits.0.circumflex) refl refl
 
 last_sound : (z : List ℕ) (b : ℕ) (negated : Bool) (marks : List Bool) (l : Listed z negated marks phase.Last) (c p : Bool) → (b == 93) ≡ c → is_printable b ≡ p
-    → Outcome z b (if c then listing.Done negated (marked (single 45) marks) else (if p then listing.Broken w.BadRange else listing.Broken w.NotAscii))
+    → Outcome z b (if c then listing.Done negated (marked (single 45) marks) else listing.Broken (if p then w.BadRange else w.NotAscii))
 last_sound z b negated marks l true p h v =
     closed_item z b negated marks phase.Last (single 45) l (same_byte b 93 h) refl
     (ap (λ f. is_item f (single 45) (93 ∷ [])) l.fits) (λ f. absurd (let g : true ≡ false = sym f ∙ l.fits in cc))
 last_sound z b negated marks l false true h v =
     (v, not_same b 93 h, inr (inr (part_of z negated marks phase.Last l, λ x. not_fresh l.is x l.fits)))
 last_sound z b negated marks l false false h v = v
-
-class_start_why : (z : List ℕ) (negated : Bool) (marks : List Bool) → Listed z negated marks phase.ClassStart → ClassWhy z
-class_start_why z negated marks l =
-    (class.Alpha, [], name_of class.Alpha ++ 58 ∷ 93 ∷ [], refl, some_left (name_of class.Alpha) 58 (93 ∷ []), part_of z negated marks phase.ClassStart l)
 
 class_name_why : (z : List ℕ) (negated : Bool) (marks : List Bool) (c : Class) (k : ℕ) → Listed z negated marks (phase.ClassName c k) → ClassWhy z
 class_name_why z negated marks c k l =
@@ -555,90 +597,11 @@ class_end_why : (z : List ℕ) (negated : Bool) (marks : List Bool) (c : Class) 
 class_end_why z negated marks c l =
     (c, name_of c ++ 58 ∷ [], 93 ∷ [], sym (append_assoc (name_of c) (58 ∷ []) (93 ∷ [])), some_left [] 93 [], part_of z negated marks (phase.ClassEnd c) l)
 
-first_or : (b k : ℕ) (x : Class) (rest : Option Class) (c : Class) (t : Bool) → (b == k) ≡ t → k ∷ [] ≡ take 1 (name_of x)
-    → (rest ≡ Some c → b ∷ [] ≡ take 1 (name_of c)) → (if t then Some x else rest) ≡ Some c → b ∷ [] ≡ take 1 (name_of c)
-first_or b k x rest c true h e f g =
-    let y : x ≡ c = cc in
-    ap (λ q. q ∷ []) (same_byte b k h) ∙ (e ∙ ap (λ q. take 1 (name_of q)) y)
-first_or b k x rest c false h e f g = f g
-
-first_letter : (b : ℕ) (c : Class) → first_class b ≡ Some c → b ∷ [] ≡ take 1 (name_of c)
-first_letter b c =
-    first_or b 97 class.Alnum _ c (b == 97) refl refl (first_or b 98 class.Blank _ c (b == 98) refl refl (first_or b 99 class.Cntrl _ c (b == 99) refl refl
-    (first_or b 100 class.Digit _ c (b == 100) refl refl (first_or b 103 class.Graph _ c (b == 103) refl refl (first_or b 108 class.Lower _ c (b == 108) refl refl
-    (first_or b 112 class.Print _ c (b == 112) refl refl (first_or b 115 class.Space _ c (b == 115) refl refl (first_or b 117 class.Upper _ c (b == 117) refl refl
-    (first_or b 120 class.Xdigit None c (b == 120) refl refl (λ h. absurd (cc)))))))))))
-
--- so many letters of a class name and one more
-record Letter (c : Class) (k b : ℕ) (d : Class) : Type 0 where
-  is_next : take k (name_of c) ++ b ∷ [] ≡ take (k + 1) (name_of d)
-  fits : k + 1 ≤ length (name_of d)
-
-name_some : (c : Class) → 1 ≤ length (name_of c)
-name_some class.Alnum = omega arith
-name_some class.Alpha = omega arith
-name_some class.Blank = omega arith
-name_some class.Cntrl = omega arith
-name_some class.Digit = omega arith
-name_some class.Graph = omega arith
-name_some class.Lower = omega arith
-name_some class.Print = omega arith
-name_some class.Punct = omega arith
-name_some class.Space = omega arith
-name_some class.Upper = omega arith
-name_some class.Xdigit = omega arith
-
-pub take_next : (k : ℕ) (xs : List ℕ) → k < length xs → take k xs ++ get_or xs k 0 ∷ [] ≡ take (k + 1) xs
-take_next k [] h = absurd (omega arith)
-take_next zero (x ∷ xs) h = refl
-take_next (suc k) (x ∷ xs) h =
-    let e : suc k + 1 ≡ suc (k + 1) = omega arith in
-    rw e (ap (λ y. x ∷ y) (take_next k xs (omega arith)))
-
-some_if : (t : Bool) (c d : Class) → (if t then Some c else None) ≡ Some d → (t ≡ true) × (c ≡ d)
-some_if true c d h = (refl, cc)
-some_if false c d h = absurd (cc)
-
-turned_letter : (c : Class) (k b : ℕ) (d : Class) → turned c k b ≡ Some d → Letter c k b d
-turned_letter class.Alnum k b d h =
-    let r = some_if (k == 2 && b == 112) class.Alpha d h in
-    let q = both (k == 2) (b == 112) r.0 in
-    subst (Letter class.Alnum k b) r.1 (subst (λ x. Letter class.Alnum x b class.Alpha) (sym (same_byte k 2 q.0))
-    (subst (λ x. Letter class.Alnum 2 x class.Alpha) (sym (same_byte b 112 q.1)) (record { is_next = refl; fits = omega arith })))
-turned_letter class.Print k b d h =
-    let r = some_if (k == 1 && b == 117) class.Punct d h in
-    let q = both (k == 1) (b == 117) r.0 in
-    subst (Letter class.Print k b) r.1 (subst (λ x. Letter class.Print x b class.Punct) (sym (same_byte k 1 q.0))
-    (subst (λ x. Letter class.Print 1 x class.Punct) (sym (same_byte b 117 q.1)) (record { is_next = refl; fits = omega arith })))
-turned_letter class.Alpha k b d h = absurd (cc)
-turned_letter class.Blank k b d h = absurd (cc)
-turned_letter class.Cntrl k b d h = absurd (cc)
-turned_letter class.Digit k b d h = absurd (cc)
-turned_letter class.Graph k b d h = absurd (cc)
-turned_letter class.Lower k b d h = absurd (cc)
-turned_letter class.Punct k b d h = absurd (cc)
-turned_letter class.Space k b d h = absurd (cc)
-turned_letter class.Upper k b d h = absurd (cc)
-turned_letter class.Xdigit k b d h = absurd (cc)
-
-next_letter : (c : Class) (k b : ℕ) (d : Class) (t : Bool) → (nat_lt k (length (name_of c)) && get_or (name_of c) k 0 == b) ≡ t
-    → (if t then Some c else turned c k b) ≡ Some d → Letter c k b d
-next_letter c k b d true h e =
-    let q = both (nat_lt k (length (name_of c))) (get_or (name_of c) k 0 == b) h in
-    let l = below_len k (length (name_of c)) q.0 in
-    let y : c ≡ d = cc in
-    subst (Letter c k b) y (record {
-      is_next = ap (λ x. take k (name_of c) ++ x ∷ []) (sym (same_byte (get_or (name_of c) k 0) b q.1)) ∙ take_next k (name_of c) l;
-      fits = omega arith;
-    })
-next_letter c k b d false h e = turned_letter c k b d e
-
-named_sound : (z : List ℕ) (b : ℕ) (negated : Bool) (marks : List Bool) (p : Phase) (l : Listed z negated marks p) (k : ℕ) (r : Option Class) → 1 ≤ k → ClassWhy z
-    → ((d : Class) → r ≡ Some d → (tail p ++ b ∷ [] ≡ 91 ∷ 58 ∷ take k (name_of d)) × (k ≤ length (name_of d)))
+named_sound : (z : List ℕ) (b : ℕ) (negated : Bool) (marks : List Bool) (p : Phase) (l : Listed z negated marks p) (k : ℕ) (r : Option Class) → ClassWhy z
+    → ((d : Class) → r ≡ Some d → (tail p ++ b ∷ [] ≡ 91 ∷ 58 ∷ take k (name_of d)) × (k ≤ length (name_of d)) × (length (name_of d) ≤ k + 5))
     → Outcome z b (named negated marks k b r)
-named_sound z b negated marks p l k (Some d) o y h =
-    let g = h d refl in kept z negated marks p (phase.ClassName d k) b l g.0 (o, g.1)
-named_sound z b negated marks p l k None o y h = fault_class z b (is_printable b) refl y
+named_sound z b negated marks p l k (Some d) y h = let g = h d refl in kept z negated marks p (phase.ClassName d k) b l g.0 (g.1, g.2)
+named_sound z b negated marks p l k None y h = fault_class z b (is_printable b) refl y
 
 class_sound : (z : List ℕ) (b : ℕ) (negated : Bool) (marks : List Bool) (c : Class) (k : ℕ) (l : Listed z negated marks (phase.ClassName c k)) (t : Bool)
     → (b == 58 && k == length (name_of c)) ≡ t
@@ -649,11 +612,11 @@ class_sound z b negated marks c k l true h =
     kept z negated marks (phase.ClassName c k) (phase.ClassEnd c) b l
     (ap (λ x. 91 ∷ 58 ∷ (x ++ b ∷ [])) n ∙ ap (λ x. 91 ∷ 58 ∷ (name_of c ++ x ∷ [])) (same_byte b 58 q.0)) tt
 class_sound z b negated marks c k l false h =
-    named_sound z b negated marks (phase.ClassName c k) l (k + 1) (next_class c k b) (omega arith) (class_name_why z negated marks c k l)
-    (λ d e. let x = next_letter c k b d _ refl e in (ap (λ y. 91 ∷ 58 ∷ y) x.is_next, x.fits))
+    named_sound z b negated marks (phase.ClassName c k) l (k + 1) (next_class c k b) (class_name_why z negated marks c k l)
+    (λ d e. let x = next_letter c k b d e in (ap (λ y. 91 ∷ 58 ∷ y) x.is_next, x.fits, omega (arith, name_short d)))
 
 class_end_sound : (z : List ℕ) (b : ℕ) (negated : Bool) (marks : List Bool) (c : Class) (l : Listed z negated marks (phase.ClassEnd c)) (t : Bool) → (b == 93) ≡ t
-    → Outcome z b (if t then at_phase negated (marked (members c) marks) phase.Next else listing.Broken (class_fault b))
+    → Outcome z b (if t then at_phase negated (marked (members c) marks) phase.Next else listing.Broken (reason_at b w.BadClass))
 unfolding head
 class_end_sound z b negated marks c l true h =
     emitted z negated marks (phase.ClassEnd c) phase.Next b (members c) l
@@ -679,8 +642,6 @@ phase_sound z b negated marks (phase.Dash e) l = dash_sound z b negated marks e 
 phase_sound z b negated marks phase.Inner l = inner_sound z b negated marks l (b == 46 || b == 61) (b == 58) refl refl
 phase_sound z b negated marks (phase.RangeInner e) l = range_inner_sound z b negated marks e l (b == 46 || b == 61) (b == 58) refl refl
 phase_sound z b negated marks phase.Last l = last_sound z b negated marks l (b == 93) (is_printable b) refl refl
-phase_sound z b negated marks phase.ClassStart l =
-    named_sound z b negated marks phase.ClassStart l 1 (first_class b) (omega arith) (class_start_why z negated marks l) (λ d e. (ap (λ y. 91 ∷ 58 ∷ y) (first_letter b d e), name_some d))
 phase_sound z b negated marks (phase.ClassName c k) l = class_sound z b negated marks c k l (b == 58 && k == length (name_of c)) refl
 phase_sound z b negated marks (phase.ClassEnd c) l = class_end_sound z b negated marks c l (b == 93) refl
 

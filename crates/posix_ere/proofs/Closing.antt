@@ -1,21 +1,18 @@
 -- What the machine has read can be closed.
-use Rattle.std.proofs.Common.{ℕ, zero, suc, ◌≡◌, ◌+◌, ◌-◌, ◌*◌, ◌/◌, ◌%◌, ◌<◌, ◌≤◌, Bool, true, false, ◌&&◌, ◌||◌, ◌==◌, List, [], ◌∷◌, ◌++◌, length, drop, get_or, replicate, refl, ◌∙◌, ap, arith, ◌⊎◌, inl, inr, Ok, Option, Some, None, length-append, nat_le, nat_lt}
-use Rattle.std.specs.List.{list_all}
+use Rattle.std.proofs.Common.{ℕ, zero, suc, ◌≡◌, ◌+◌, ◌<◌, ◌≤◌, Bool, true, false, ◌&&◌, ◌==◌, List, [], ◌∷◌, ◌++◌, length, take, drop, get_or, replicate, refl, sym, ◌∙◌, ap, arith, Ok, Option, Some, None, length-append}
 use Rattle.std.proofs.lemmas.Bool.Decides.{nat_tests}
 use Rattle.std.proofs.lemmas.List.{length-drop}
+use Rattle.std.proofs.Math.Seq.{take-length}
 use Rattle.posix_ere.specs.Tree.{Tree}
-use Rattle.posix_ere.specs.Ascii.{is_digit}
 use Rattle.posix_ere.specs.Bracket.{name_of}
 use Rattle.posix_ere.specs.Bracket.Item.{single, range, members}
 use Rattle.posix_ere.specs.Interval.{value_from}
 use Rattle.posix_ere.specs.Places.{CanBeClosed}
-use Rattle.posix_ere.specs.IntervalMachine.{may_reach}
-use Rattle.posix_ere.specs.BracketMachine.{marked, next_class}
+use Rattle.posix_ere.specs.BracketMachine.{marked, next_class, named, phase_step, at_phase}
 use Rattle.posix_ere.specs.Cells.{put}
 use Rattle.posix_ere.specs.Machine.{State, step, run, mode_step, closed, finish, finish_at, finish_plain, ended, top_of, start, at_mode, with_leaf, with_repeat, no_marks}
 use Rattle.posix_ere.specs.declared.node.Node.TheVariants as n
 use Rattle.posix_ere.specs.declared.class.Class.{Class}
-use Rattle.posix_ere.specs.declared.class.Class.TheVariants as class
 use Rattle.posix_ere.specs.declared.interval.Interval.{Interval}
 use Rattle.posix_ere.specs.declared.interval.Interval.TheVariants as interval
 use Rattle.posix_ere.specs.declared.bracket.Bracket.{Bracket}
@@ -25,11 +22,13 @@ use Rattle.posix_ere.specs.declared.frame.Frame.{Frame}
 use Rattle.posix_ere.specs.declared.frame.Mode.{Mode}
 use Rattle.posix_ere.specs.declared.frame.Mode.TheVariants as mode
 use Rattle.posix_ere.proofs.Runs.{run_on, run_one}
-use Rattle.posix_ere.proofs.IntervalRuns.{inside as counting_inside, counts, done as counting_done, highs, both}
+use Rattle.posix_ere.proofs.IntervalRuns.{inside as counting_inside, counts, done as counting_done, highs}
 use Rattle.posix_ere.proofs.BracketRuns.{inside as listing_inside, goes}
+use Rattle.posix_ere.proofs.ClassNames.{goes_next, whole_name}
 use Rattle.posix_ere.proofs.Complete.{step_plain}
 use Rattle.posix_ere.proofs.Sound.{Nest}
 use Rattle.posix_ere.proofs.IntervalSound.{Counted}
+use Rattle.posix_ere.proofs.IntervalClosing.{target, nat_le_true}
 use Rattle.posix_ere.proofs.BracketSound.{Listed}
 use Rattle.posix_ere.proofs.Meaning.{Means, run_meaning, accepted}
 
@@ -101,90 +100,6 @@ settle_listed s k bs negated marks m l r = record {
   frames = refl;
 }
 
--- digits that reach a count
-record Target (m v c : ℕ) : Type 0 where
-  digits : List ℕ
-  all : list_all is_digit digits ≡ true
-  few : length digits ≤ 2
-  short : c + length digits ≤ 3
-  least : m ≤ value_from v digits
-  most : value_from v digits ≤ 255
-
-digit_of : (d : ℕ) → d ≤ 9 → is_digit (48 + d) ≡ true
-digit_of d h = grind (arith, nat_tests)
-
-one_digit : (m v c d : ℕ) → d ≤ 9 → c < 3 → m ≤ v * 10 + d → v * 10 + d ≤ 255 → Target m v c
-one_digit m v c d h l a b =
-    let e : v * 10 + ((48 + d) - 48) ≡ v * 10 + d = omega arith in
-    record {
-      digits = (48 + d) ∷ [];
-      all = rw (digit_of d h) refl;
-      few = omega arith;
-      short = omega arith;
-      least = omega (arith, e);
-      most = omega (arith, e);
-    }
-
-two_digits : (m v c d f : ℕ) → d ≤ 9 → f ≤ 9 → c < 2 → m ≤ (v * 10 + d) * 10 + f → (v * 10 + d) * 10 + f ≤ 255 → Target m v c
-two_digits m v c d f h k l a b =
-    let e : (v * 10 + ((48 + d) - 48)) * 10 + ((48 + f) - 48) ≡ (v * 10 + d) * 10 + f = omega arith in
-    record {
-      digits = (48 + d) ∷ (48 + f) ∷ [];
-      all = rw (digit_of d h, digit_of f k) refl;
-      few = omega arith;
-      short = omega arith;
-      least = omega (arith, e);
-      most = omega (arith, e);
-    }
-
-le_or_gt : (a b : ℕ) → (a ≤ b) ⊎ (b < a)
-le_or_gt a b = grind arith
-
-upto : (a b : ℕ) → nat_le a b ≡ true → a ≤ b
-upto a b h = grind (arith, nat_tests)
-
-below : (a b : ℕ) → nat_lt a b ≡ true → a < b
-below a b h = grind (arith, nat_tests)
-
-or_cases : (p q : Bool) → (p || q) ≡ true → (p ≡ true) ⊎ (q ≡ true)
-or_cases true q h = inl refl
-or_cases false q h = inr h
-
-target_two : (m v c : ℕ) → m ≤ 255 → c < 2 → m ≤ v * 100 + 99 → v * 100 ≤ 255 → (m ≤ v * 100) ⊎ (v * 100 < m) → Target m v c
-target_two m v c h l a b (inl x) = two_digits m v c 0 0 (omega arith) (omega arith) l (omega arith) (omega arith)
-target_two m v c h l a b (inr x) =
-    let d = m - v * 100 in
-    let q : 10 * (d / 10) + d % 10 ≡ d = omega arith in
-    let r : d % 10 < 10 = omega arith in
-    let y : d ≤ 99 = omega arith in
-    let z : d / 10 ≤ 9 = omega (arith, q, r) in
-    let u : (v * 10 + d / 10) * 10 + d % 10 ≡ m = omega (arith, q) in
-    two_digits m v c (d / 10) (d % 10) z (omega arith) l (omega (arith, u)) (omega (arith, u))
-
-target_one : (m v c : ℕ) → m ≤ 255 → c < 3 → m ≤ v * 10 + 9 → v * 10 ≤ 255 → (m ≤ v * 10) ⊎ (v * 10 < m) → Target m v c
-target_one m v c h l a b (inl x) = one_digit m v c 0 (omega arith) l (omega arith) (omega arith)
-target_one m v c h l a b (inr x) = one_digit m v c (m - v * 10) (omega arith) l (omega arith) (omega arith)
-
-target : (m v c : ℕ) → m ≤ 255 → c ≤ 3 → may_reach m v c ≡ true → Target m v c
-target m v c h l r =
-    elim (or_cases ((nat_le m v && nat_le v 255) || (nat_lt c 3 && nat_le m (v * 10 + 9) && nat_le (v * 10) 255)) (nat_lt c 2 && nat_le m (v * 100 + 99) && nat_le (v * 100) 255) r) [
-      | inl a ↦ elim (or_cases (nat_le m v && nat_le v 255) (nat_lt c 3 && nat_le m (v * 10 + 9) && nat_le (v * 10) 255) a) [
-        | inl b ↦ (let q = both (nat_le m v) (nat_le v 255) b in none_more (upto m v q.0) (upto v 255 q.1))
-        | inr b ↦ (let q = both (nat_lt c 3 && nat_le m (v * 10 + 9)) (nat_le (v * 10) 255) b in
-            let p = both (nat_lt c 3) (nat_le m (v * 10 + 9)) q.0 in
-            target_one m v c h (below c 3 p.0) (upto m (v * 10 + 9) p.1) (upto (v * 10) 255 q.1) (le_or_gt m (v * 10)))
-      ]
-      | inr a ↦ (let q = both (nat_lt c 2 && nat_le m (v * 100 + 99)) (nat_le (v * 100) 255) a in
-          let p = both (nat_lt c 2) (nat_le m (v * 100 + 99)) q.0 in
-          target_two m v c h (below c 2 p.0) (upto m (v * 100 + 99) p.1) (upto (v * 100) 255 q.1) (le_or_gt m (v * 100)))
-    ]
-  where
-    none_more : m ≤ v → v ≤ 255 → Target m v c
-    none_more a b = record { digits = []; all = refl; few = omega arith; short = omega arith; least = a; most = b }
-
-nat_le_true : (a b : ℕ) → a ≤ b → nat_le a b ≡ true
-nat_le_true a b h = grind (arith, nat_tests)
-
 settle_interval : (s : State) (i : Interval) (z : List ℕ) → s.mode ≡ mode.Interval i → Counted z i → Settles s
 unfolding counting_inside
 settle_interval s interval.Start z m h =
@@ -200,38 +115,9 @@ settle_interval s (interval.High k v c) z m (x, y, e, a, b, l, r) =
     ∙ counting_done s (interval.High k (value_from v t.digits) (c + length t.digits)) k (Some (value_from v t.digits)) (rw (nat_le_true k (value_from v t.digits) t.least) refl))
 
 -- the rest of a class name, its closing, and the closing of the bracket
-class_next : (c : Class) (k b : ℕ) → k < length (name_of c) → get_or (name_of c) k 0 ≡ b → next_class c k b ≡ Some c
-class_next c k b l e =
-    let x : nat_lt k (length (name_of c)) ≡ true = lt_true k (length (name_of c)) l in
-    let y : (get_or (name_of c) k 0 == b) ≡ true = rw e (eq_self b) in
-    rw (x, y) refl
-  where
-    lt_true : (a b : ℕ) → a < b → nat_lt a b ≡ true
-    lt_true a b h = grind (arith, nat_tests)
-
-    eq_self : (a : ℕ) → (a == a) ≡ true
-    eq_self a = grind (arith, nat_tests)
-
-name_short : (c : Class) → length (name_of c) ≤ 6
-name_short class.Alnum = omega arith
-name_short class.Alpha = omega arith
-name_short class.Blank = omega arith
-name_short class.Cntrl = omega arith
-name_short class.Digit = omega arith
-name_short class.Graph = omega arith
-name_short class.Lower = omega arith
-name_short class.Print = omega arith
-name_short class.Punct = omega arith
-name_short class.Space = omega arith
-name_short class.Upper = omega arith
-name_short class.Xdigit = omega arith
-
 and_false : (v : Bool) → (v && false) ≡ false
 and_false true = refl
 and_false false = refl
-
-eq_false : (a b : ℕ) → a < b → (a == b) ≡ false
-eq_false a b h = grind (arith, nat_tests)
 
 eq_true : (a b : ℕ) → a ≡ b → (a == b) ≡ true
 eq_true a b h = grind (arith, nat_tests)
@@ -246,23 +132,39 @@ front (suc k) (x ∷ xs) y ys h =
     let e : suc k + 1 ≡ suc (k + 1) = omega arith in
     (r.0, rw e r.1, omega (arith, r.2))
 
-class_rest : (s : State) (negated : Bool) (marks : List Bool) (c : Class) (xs : List ℕ) (k : ℕ) → drop k (name_of c) ≡ xs → k ≤ length (name_of c)
-    → run (listing_inside s negated (phase.ClassName c k) marks) (xs ++ 58 ∷ 93 ∷ 93 ∷ []) ≡ Ok (with_leaf (n.Set negated) (marked (members c) marks) true s)
+not_whole : (c d : Class) (k : ℕ) → take k (name_of d) ≡ take k (name_of c) → k < length (name_of c) → (k == length (name_of d)) ≡ false
+not_whole c d k t l =
+    eq_false_at k (length (name_of d)) (λ e. let f : take (length (name_of d)) (name_of c) ≡ name_of d =
+    ap (λ j. take j (name_of c)) (sym e) ∙ (sym t ∙ (ap (λ j. take j (name_of d)) e ∙ take-length (name_of d))) in
+    absurd (omega (arith, whole_name d c f, e)))
+  where
+    eq_false_at : (a b : ℕ) → (a ≡ b → ⊥) → (a == b) ≡ false
+    eq_false_at a b h = grind (arith, nat_tests)
+
+-- from so many letters of a name on
+class_rest : (s : State) (negated : Bool) (marks : List Bool) (c d : Class) (xs : List ℕ) (k : ℕ) → drop k (name_of c) ≡ xs → k ≤ length (name_of c)
+    → take k (name_of d) ≡ take k (name_of c)
+    → (e : Class) × (run (listing_inside s negated (phase.ClassName d k) marks) (xs ++ 58 ∷ 93 ∷ 93 ∷ []) ≡ Ok (with_leaf (n.Set negated) (marked (members e) marks) true s))
 unfolding listing_inside step
-class_rest s negated marks c [] k h l =
+class_rest s negated marks c d [] k h l t =
     let e : k ≡ length (name_of c) = omega (arith, length-drop k (name_of c), ap length h) in
-    goes s negated (phase.ClassName c k) (phase.ClassEnd c) marks marks 58 (93 ∷ 93 ∷ []) (rw (eq_true k (length (name_of c)) e) refl)
-class_rest s negated marks c (x ∷ xs) k h l =
+    let f : take (length (name_of c)) (name_of d) ≡ name_of c = ap (λ j. take j (name_of d)) (sym e) ∙ (t ∙ (ap (λ j. take j (name_of c)) e ∙ take-length (name_of c))) in
+    let g : k ≡ length (name_of d) = e ∙ whole_name c d f in
+    (d, goes s negated (phase.ClassName d k) (phase.ClassEnd d) marks marks 58 (93 ∷ 93 ∷ []) (rw (eq_true k (length (name_of d)) g) refl))
+class_rest s negated marks c d (x ∷ xs) k h l t =
     let f = front k (name_of c) x xs h in
-    goes s negated (phase.ClassName c k) (phase.ClassName c (k + 1)) marks marks x (xs ++ 58 ∷ 93 ∷ 93 ∷ [])
-    (rw (eq_false k (length (name_of c)) f.2, and_false (x == 58), class_next c k x f.2 f.0) refl)
-    ∙ class_rest s negated marks c xs (k + 1) f.1 (omega (arith, f.2))
+    let g = goes_next c d k t f.2 in
+    let n : next_class d k x ≡ Some g.0 = ap (next_class d k) (sym f.0) ∙ g.1 in
+    let r = class_rest s negated marks c g.0 xs (k + 1) f.1 (omega (arith, f.2)) g.2 in
+    let y : phase_step negated marks (phase.ClassName d k) x ≡ at_phase negated marks (phase.ClassName g.0 (k + 1)) =
+    rw (not_whole c d k t f.2, and_false (x == 58)) (ap (named negated marks (k + 1) x) n) in
+    (r.0, goes s negated (phase.ClassName d k) (phase.ClassName g.0 (k + 1)) marks marks x (xs ++ 58 ∷ 93 ∷ 93 ∷ []) y ∙ r.1)
 
 settle_bracket : (s : State) (negated : Bool) (marks : List Bool) (p : Phase) (z : List ℕ) → s.mode ≡ mode.Bracket (record { negated = negated; marks = marks; phase = p })
     → Listed z negated marks p → Settles s
 unfolding step listing_inside
 settle_bracket s negated marks phase.Start z m h =
-    settle_listed s _ (97 ∷ 93 ∷ []) false (marked (single 97) marks) m (omega arith) refl
+    settle_listed s _ (97 ∷ 93 ∷ []) negated (marked (single 97) marks) m (omega arith) refl
 settle_bracket s negated marks phase.First z m h =
     settle_listed s _ (97 ∷ 93 ∷ []) negated (marked (single 97) marks) m (omega arith) refl
 settle_bracket s negated marks phase.Next z m h = settle_listed s _ (93 ∷ []) negated marks m (omega arith) refl
@@ -271,13 +173,11 @@ settle_bracket s negated marks (phase.Dash e) z m h = settle_listed s _ (93 ∷ 
 settle_bracket s negated marks phase.Inner z m h = settle_listed s _ (93 ∷ []) negated (marked (single 91) marks) m (omega arith) refl
 settle_bracket s negated marks (phase.RangeInner e) z m h = settle_listed s _ (93 ∷ []) negated (marked (range e 91) marks) m (omega arith) refl
 settle_bracket s negated marks phase.Last z m h = settle_listed s _ (93 ∷ []) negated (marked (single 45) marks) m (omega arith) refl
-settle_bracket s negated marks phase.ClassStart z m h =
-    settle_listed s _ (97 ∷ 108 ∷ 112 ∷ 104 ∷ 97 ∷ 58 ∷ 93 ∷ 93 ∷ []) negated (marked (members class.Alpha) marks) m (omega arith) refl
 settle_bracket s negated marks (phase.ClassName c k) z m h =
     let e = length-append (drop k (name_of c)) (58 ∷ 93 ∷ 93 ∷ []) in
-    settle_listed s _ (drop k (name_of c) ++ 58 ∷ 93 ∷ 93 ∷ []) negated (marked (members c) marks) m
-    (omega (arith, e, length-drop k (name_of c), name_short c, h.fits.0))
-    (class_rest s negated marks c (drop k (name_of c)) k refl h.fits.1)
+    let r = class_rest s negated marks c c (drop k (name_of c)) k refl h.fits.0 refl in
+    settle_listed s _ (drop k (name_of c) ++ 58 ∷ 93 ∷ 93 ∷ []) negated (marked (members r.0) marks) m
+    (omega (arith, e, length-drop k (name_of c), h.fits.0, h.fits.1)) r.1
 settle_bracket s negated marks (phase.ClassEnd c) z m h =
     settle_listed s _ (93 ∷ 93 ∷ []) negated (marked (members c) marks) m (omega arith) refl
 

@@ -1,16 +1,16 @@
 -- In which mode the machine is after a text that a reason speaks of.
-use Rattle.std.proofs.Common.{ℕ, zero, suc, ◌≡◌, ◌≢◌, ◌+◌, Bool, true, false, not, ◌&&◌, ◌||◌, ◌==◌, List, [], ◌∷◌, ◌++◌, refl, sym, ◌∙◌, ap, subst, arith, inl, inr, Result, Ok, Err, Option, Some, None, append_assoc}
+use Rattle.std.proofs.Common.{ℕ, zero, suc, ◌≡◌, ◌≢◌, ◌+◌, Bool, true, false, not, ◌&&◌, ◌||◌, ◌==◌, List, [], ◌∷◌, ◌++◌, refl, sym, ◌∙◌, ap, subst, arith, ◌⊎◌, inl, inr, Result, Ok, Err, Option, Some, None, append_assoc, nat_le}
 use Rattle.std.specs.Prelude.{if◌then◌else◌}
 use Rattle.std.specs.List.{list_all}
 use Rattle.std.proofs.lemmas.Bool.Decides.{nat_tests}
 use Rattle.std.proofs.lemmas.List.{append-nil}
 use Rattle.posix_ere.specs.Ascii.{is_printable, is_digit, is_lower}
-use Rattle.posix_ere.specs.Bracket.{Item, name_of, spelled, body, sign, begins, is_item, are_items, opens}
+use Rattle.posix_ere.specs.Bracket.{Item, name_of, spelled, body, sign, begins, goes_on_as_range, is_element, is_item, are_items, opens}
 use Rattle.posix_ere.specs.Bracket.Item.{single, range, members}
-use Rattle.posix_ere.specs.Reasons.{IsBetween, Between, InInterval, InEscape, IsItemPart, InBracket}
+use Rattle.posix_ere.specs.Reasons.{IsBetween, Between, AfterNothing, InInterval, InEscape, IsUndecided, InBracket}
 use Rattle.posix_ere.specs.IntervalMachine.{count_step}
-use Rattle.posix_ere.specs.BracketMachine.{marked, list_step, phase_step, begin_item, named, first_class, next_class, at_phase}
-use Rattle.posix_ere.specs.Machine.{State, start, step, run, after, mode_step, interval_step, bracket_step, with_group, with_leaf, at_mode, no_marks}
+use Rattle.posix_ere.specs.BracketMachine.{marked, list_step, phase_step, begin_item, named, next_class, at_phase}
+use Rattle.posix_ere.specs.Machine.{State, start, step, run, after, mode_step, interval_step, bracket_step, with_group, with_branch, with_leaf, at_mode, no_marks, if_repeatable}
 use Rattle.posix_ere.specs.declared.node.Node.TheVariants as n
 use Rattle.posix_ere.specs.declared.why.Why.{Why}
 use Rattle.posix_ere.specs.declared.why.Why.TheVariants as w
@@ -23,13 +23,15 @@ use Rattle.posix_ere.specs.declared.interval.Counting.TheVariants as counting
 use Rattle.posix_ere.specs.declared.bracket.Bracket.{Bracket}
 use Rattle.posix_ere.specs.declared.bracket.Phase.{Phase}
 use Rattle.posix_ere.specs.declared.bracket.Phase.TheVariants as phase
-use Rattle.posix_ere.specs.declared.bracket.Listing.{Listing}
-use Rattle.posix_ere.specs.declared.bracket.Listing.TheVariants as listing
+use Rattle.posix_ere.specs.BracketMachine.{Listing}
+use Rattle.posix_ere.specs.BracketMachine.{Listing as listing}
 use Rattle.posix_ere.specs.declared.frame.Mode.{Mode}
 use Rattle.posix_ere.specs.declared.frame.Mode.TheVariants as mode
 use Rattle.posix_ere.proofs.Runs.{run_on, run_one, run-append, same_ok, err_not_ok}
 use Rattle.posix_ere.proofs.IntervalRuns.{both}
-use Rattle.posix_ere.proofs.BracketRuns.{inside, Follows, item_goes, begin_element, goes, step_inside, only_last, hyphen_last, range_start, class_head, not_circumflex, first_step, head, same_byte, other_byte}
+use Rattle.posix_ere.proofs.IntervalSound.{interval_bytes, bytes_front}
+use Rattle.posix_ere.proofs.BracketSound.{last_item}
+use Rattle.posix_ere.proofs.BracketRuns.{inside, Follows, element, item_goes, begin_element, goes, step_inside, only_last, hyphen_last, range_start, class_head, not_circumflex, first_step, head, same_byte, other_byte}
 use Rattle.posix_ere.proofs.Complete.{runs_expression, step_plain}
 
 -- the last byte of a text
@@ -102,6 +104,44 @@ runs_between (suc d) k p (q, w, j, t, e, h, x, g) =
 pub between_mode : (p : List ℕ) → Between p → (s : State) × (run start p ≡ Ok s) × (s.mode ≡ mode.Plain)
 between_mode p (d, k, h) = let r = runs_between d k p h in (r.0, r.1, r.2)
 
+-- after nothing that can be repeated
+pub nothing_mode : (p : List ℕ) → AfterNothing p → (s : State) × (run start p ≡ Ok s) × (s.mode ≡ mode.Plain) × (s.top.repeatable ≡ false)
+nothing_mode p (inl e) = (start, ap (run start) e, refl, refl)
+nothing_mode p (inr (q, x, e, h, v)) =
+    let a = between_mode q h in
+    let r = idle_byte a.0 x a.2 v in
+    (r.0, ap (run start) e ∙ (run_on start a.0 q (x ∷ []) a.1 ∙ run_one a.0 r.0 x [] r.1), r.2, r.3)
+  where
+    or_cases : (p q : Bool) → (p || q) ≡ true → (p ≡ true) ⊎ (q ≡ true)
+    or_cases true q h = inl refl
+    or_cases false q h = inr h
+
+    plain_byte : (s t : State) (x c : ℕ) → (x == c) ≡ true → step s c ≡ Ok t → step s x ≡ Ok t
+    plain_byte s t x c h e = ap (step s) (same_byte x c h) ∙ e
+
+    idle_byte : (s : State) (x : ℕ) → s.mode ≡ mode.Plain → (x == 40 || x == 124 || x == 94 || x == 36) ≡ true → (t : State) × (step s x ≡ Ok t) × (t.mode ≡ mode.Plain) × (t.top.repeatable ≡ false)
+    idle_byte s x m v = elim (or_cases (x == 40 || x == 124 || x == 94) (x == 36) v) [
+      | inr e ↦ (with_leaf n.End no_marks false s, plain_byte s _ x 36 e (step_plain s 36 m), refl, refl)
+      | inl a ↦ elim (or_cases (x == 40 || x == 124) (x == 94) a) [
+        | inr e ↦ (with_leaf n.Start no_marks false s, plain_byte s _ x 94 e (step_plain s 94 m), refl, refl)
+        | inl b ↦ elim (or_cases (x == 40) (x == 124) b) [
+          | inl e ↦ (with_group s, plain_byte s _ x 40 e (step_plain s 40 m), m, refl)
+          | inr e ↦ (with_branch s, plain_byte s _ x 124 e (step_plain s 124 m), m, refl)
+        ]
+      ]
+    ]
+
+-- a `{` that the machine has read begins an interval
+pub not_nothing : (p q z : List ℕ) (s : State) → run start p ≡ Ok s → p ≡ q ++ 123 ∷ z → AfterNothing q → ⊥
+not_nothing p q z s h e n =
+    let a = nothing_mode q n in
+    let f : step a.0 123 ≡ Err w.NothingToRepeat = step_plain a.0 123 a.2 ∙ idle a.0 a.3 in
+    err_not_ok w.NothingToRepeat s
+    (sym (ap (run start) e ∙ (run_on start a.0 q (123 ∷ z) a.1 ∙ ap (λ r. after r (λ t. run t z)) f)) ∙ h)
+  where
+    idle : (t : State) → t.top.repeatable ≡ false → if_repeatable t (at_mode (mode.Interval interval.Start) t) ≡ Err w.NothingToRepeat
+    idle t r = rw r refl
+
 -- after a backslash
 pub escape_mode : (p : List ℕ) → InEscape p → (s : State) × (run start p ≡ Ok s) × (s.mode ≡ mode.Escape)
 escape_mode p (q, e, h) =
@@ -137,10 +177,6 @@ abbrev pub Counts : Result State Why → Type 0
 Counts (Ok t) = (i : Interval) × (t.mode ≡ mode.Interval i)
 Counts (Err why) = Unit {0}
 
-counts_err : (t : Bool) (v : List ℕ) → Counts (after (if t then Err w.BadInterval else Err w.NotAscii) (λ u. run u v))
-counts_err true v = tt
-counts_err false v = tt
-
 step_interval : (s : State) (i : Interval) (b : ℕ) → s.mode ≡ mode.Interval i → step s b ≡ interval_step s b (count_step i b)
 unfolding step
 step_interval s i b m = ap (λ x. mode_step x s b) m
@@ -155,7 +191,7 @@ counts_on (b ∷ v) s i m h =
     go : (c : Counting) → Undone c → ((j : Interval) → Counts (run (at_mode (mode.Interval j) s) v)) → Counts (after (interval_step s b c) (λ t. run t v))
     go (counting.More j) o f = f j
     go (counting.Done low high) o f = absurd (o.not_done low high refl)
-    go counting.Broken o f = counts_err (is_printable b) v
+    go counting.Broken o f = tt
 
 -- inside a bracket, a byte that is no closing leaves it open
 record Unlisted (r : Listing) : Type 0 where
@@ -187,7 +223,7 @@ named_open negated m k b (Some c) = unlisted_more negated m (phase.ClassName c k
 named_open negated m k b None = unlisted_broken _
 
 start_open : (negated : Bool) (m : List Bool) (b : ℕ) → Unlisted (phase_step negated m phase.Start b)
-start_open negated m b = unlisted_if (b == 94) _ _ (unlisted_more true m phase.First) (begin_open true false m b (λ e. absurd (cc)))
+start_open negated m b = unlisted_if (b == 94) _ _ (unlisted_more true m phase.First) (begin_open true negated m b (λ e. absurd (cc)))
 
 element_open : (negated : Bool) (m : List Bool) (e b : ℕ) → (b == 93) ≡ false → Unlisted (phase_step negated m (phase.Element e) b)
 element_open negated m e b h = unlisted_if (b == 45) _ _ (unlisted_more negated m (phase.Dash e)) (begin_open false negated _ b (λ f. h))
@@ -204,8 +240,7 @@ phase_open negated m phase.Inner b h =
     unlisted_if (b == 46 || b == 61) _ _ (unlisted_broken _) (unlisted_if (b == 58) _ _ (unlisted_more negated m _) (element_open negated m 91 b h))
 phase_open negated m (phase.RangeInner e) b h =
     unlisted_if (b == 46 || b == 61) _ _ (unlisted_broken _) (unlisted_if (b == 58) _ _ (unlisted_broken _) (begin_open false negated _ b (λ f. h)))
-phase_open negated m phase.Last b h = rw h (unlisted_if (is_printable b) _ _ (unlisted_broken _) (unlisted_broken _))
-phase_open negated m phase.ClassStart b h = named_open negated m 1 b (first_class b)
+phase_open negated m phase.Last b h = rw h (unlisted_broken _)
 phase_open negated m (phase.ClassName c k) b h =
     unlisted_if _ _ _ (unlisted_more negated m _) (named_open negated m (k + 1) b (next_class c k b))
 phase_open negated m (phase.ClassEnd c) b h = rw h (unlisted_broken _)
@@ -249,13 +284,40 @@ class_inner class.Space = refl
 class_inner class.Upper = refl
 class_inner class.Xdigit = refl
 
-part_inner : (y : ℕ) (ys : List ℕ) → IsItemPart (y ∷ ys) → list_all is_inner ys ≡ true
-part_inner y ys (inl (single e, r, f, n)) = let g : [] ≡ ys ++ r = cc in absurd (n (no_rest ys r g))
-part_inner y ys (inl (range e k, r, f, n)) = let g : 45 ∷ k ∷ [] ≡ ys ++ r = cc in front_all is_inner (45 ∷ []) k ys r g n refl
-part_inner y ys (inl (members c, r, f, n)) =
-    let g : 58 ∷ (name_of c ++ 58 ∷ 93 ∷ []) ≡ ys ++ r = cc in
-    front_all is_inner (58 ∷ (name_of c ++ 58 ∷ [])) 93 ys r (ap (λ x. 58 ∷ x) (append_assoc (name_of c) (58 ∷ []) (93 ∷ [])) ∙ g) n (class_inner c)
-part_inner y ys (inr (e, f)) = let g : ys ≡ 45 ∷ 91 ∷ [] = cc in subst (λ x. list_all is_inner x ≡ true) (sym g) refl
+undecided_inner : (y : ℕ) (ys : List ℕ) → IsUndecided (y ∷ ys) → list_all is_inner ys ≡ true
+undecided_inner y ys (inl e) = let f : ys ≡ [] = cc in subst (λ x. list_all is_inner x ≡ true) (sym f) refl
+undecided_inner y ys (inr (e, f)) = let g : ys ≡ 45 ∷ 91 ∷ [] = cc in subst (λ x. list_all is_inner x ≡ true) (sym g) refl
+
+part_inner : (i : Item) (y : ℕ) (ys r : List ℕ) → spelled i ≡ y ∷ (ys ++ r) → (r ≡ [] → IsUndecided (y ∷ ys)) → list_all is_inner ys ≡ true
+part_inner i y ys [] f u = undecided_inner y ys (u refl)
+part_inner (single e) y ys (x ∷ xs) f u = let g : [] ≡ ys ++ x ∷ xs = cc in let h = no_rest ys (x ∷ xs) g in absurd (cc)
+part_inner (range e k) y ys (x ∷ xs) f u = let g : 45 ∷ k ∷ [] ≡ ys ++ x ∷ xs = cc in front_all is_inner (45 ∷ []) k ys (x ∷ xs) g (λ h. cc) refl
+part_inner (members c) y ys (x ∷ xs) f u =
+    let g : 58 ∷ (name_of c ++ 58 ∷ 93 ∷ []) ≡ ys ++ x ∷ xs = cc in
+    front_all is_inner (58 ∷ (name_of c ++ 58 ∷ [])) 93 ys (x ∷ xs) (ap (λ w. 58 ∷ w) (append_assoc (name_of c) (58 ∷ []) (93 ∷ [])) ∙ g) (λ h. cc) (class_inner c)
+
+-- an item after the first begins with no `]`
+not_closing : (i : Item) (t : ℕ) (w : List ℕ) → is_item false i (93 ∷ []) ≡ true → spelled i ≡ t ∷ w → t ≡ 93 → ⊥
+not_closing (single e) t w v f g =
+    let r : List ℕ = 93 ∷ [] in
+    let a = (both (is_element false e r && not (goes_on_as_range r)) (false || not (e == 45) || begins (λ b. b == 93) r) v).0 in
+    let x = element false e r (both (is_element false e r) (not (goes_on_as_range r)) a).0 in
+    let s : e ≡ t = cc in
+    x.closes refl (s ∙ g)
+not_closing (range e k) t w v f g =
+    let r : List ℕ = 93 ∷ [] in
+    let a = (both (is_element false e (45 ∷ []) && (false || not (e == 45)) && is_element false k r) (nat_le e k) v).0 in
+    let b = (both (is_element false e (45 ∷ []) && (false || not (e == 45))) (is_element false k r) a).0 in
+    let x = element false e (45 ∷ []) (both (is_element false e (45 ∷ [])) (false || not (e == 45)) b).0 in
+    let s : e ≡ t = cc in
+    x.closes refl (s ∙ g)
+not_closing (members c) t w v f g = let s : 91 ≡ t = cc in absurd (omega (arith, s, g))
+
+closing_first : (negated : Bool) (is : List Item) (i : Item) (t : ℕ) (w : List ℕ) → opens negated (is ++ i ∷ []) (93 ∷ []) ≡ true → spelled i ≡ t ∷ w → t ≡ 93 → is ≡ []
+closing_first negated [] i t w h f g = refl
+closing_first negated (j ∷ js) i t w h f g =
+    let a = both (are_items true ((j ∷ js) ++ i ∷ []) (93 ∷ [])) (negated || not (begins (λ b. b == 94) (body ((j ∷ js) ++ i ∷ [])))) h in
+    absurd (not_closing i t w (last_item true (j ∷ js) i (93 ∷ []) a.0) f g)
 
 -- what follows items is not empty
 shape : (is : List Item) (t : ℕ) (ts : List ℕ) → (u : ℕ) × (us : List ℕ) × (body is ++ t ∷ ts ≡ u ∷ us)
@@ -459,9 +521,6 @@ brackets_ok p c (s, e, h) = subst (Brackets c) (sym e) h
 items_there : (negated : Bool) (is : List Item) (y : List ℕ) → ((r : List ℕ) → opens negated is (y ++ r) ≡ true) → opens negated is y ≡ true
 items_there negated is y h = ap (opens negated is) (sym (append-nil y)) ∙ h []
 
-closing_first : (is : List Item) (t : ℕ) → ((t == 93) ≡ true → is ≡ []) → t ≡ 93 → is ≡ []
-closing_first is t h e = h (rw e refl)
-
 -- the last byte of a bracket's text
 pub last_part : (p y : List ℕ) (t : ℕ) (ts : List ℕ) → InBracket p y → y ≡ t ∷ ts → last_of p ≡ last_from t ts
 last_part p y t ts (q, z, e, b, h) f =
@@ -470,13 +529,13 @@ last_part p y t ts (q, z, e, b, h) f =
 
 part_brackets : (p : List ℕ) (t : ℕ) (ts : List ℕ) (v : Bool) → InBracket p (t ∷ ts) → is_counting (last_from t ts) ≡ v → Brackets (last_from t ts) (run start p)
 part_brackets p t ts false (q, z, e, b, h) c =
-    let r = reached p q z h.negated h.is t ts e b h.text (items_there h.negated h.is (t ∷ ts) h.items) (closing_first h.is t h.unclosed) in
-    brackets_held (last_from t ts) (run start p) (held_there p t ts r (part_inner t ts h.part)) c
+    let r = reached p q z h.negated h.is t ts e b h.text (items_there h.negated h.is (t ∷ ts) h.items) (closing_first h.negated h.is h.begun t (ts ++ h.rest) h.stands h.spells) in
+    brackets_held (last_from t ts) (run start p) (held_there p t ts r (part_inner h.begun t ts h.rest h.spells h.left)) c
 part_brackets p t [] true (q, z, e, b, h) c =
-    let r = reached p q z h.negated h.is t [] e b h.text (items_there h.negated h.is (t ∷ []) h.items) (closing_first h.is t h.unclosed) in
+    let r = reached p q z h.negated h.is t [] e b h.text (items_there h.negated h.is (t ∷ []) h.items) (closing_first h.negated h.is h.begun t h.rest h.stands h.spells) in
     brackets_ok p t (element_there p t r (plain t c))
 part_brackets p t (x ∷ xs) true (q, z, e, b, h) c =
-    let i = both (is_inner x) (list_all is_inner xs) (part_inner t (x ∷ xs) h.part) in
+    let i = both (is_inner x) (list_all is_inner xs) (part_inner h.begun t (x ∷ xs) h.rest h.spells h.left) in
     let f = inner_counting (last_from x xs) (last_all is_inner x xs i.0 i.1) in
     absurd (let g : true ≡ false = sym c ∙ f in cc)
 
@@ -509,8 +568,9 @@ counting_all (b ∷ v) h =
     or_true false q h = h
 
 pub interval_mode : (p : List ℕ) → InInterval p → Counts (run start p) × (is_counting (last_of p) ≡ true)
-interval_mode p (q, v, e, b, h) =
-    let a = between_mode q b in (
+interval_mode p (q, v, e, b, o, (x, m, n, i)) =
+    let a = between_mode q b in
+    let h = bytes_front v x (interval_bytes (v ++ x) m n i) in (
       subst Counts (sym (ap (run start) e ∙ run_on start a.0 q (123 ∷ v) a.1)) (counts_brace a.0 v a.2 h),
       ap is_counting (ap last_of e ∙ last_append q 123 v) ∙ last_all is_counting 123 v refl (counting_all v h),
     )

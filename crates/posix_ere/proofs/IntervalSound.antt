@@ -186,11 +186,16 @@ count_bytes_append (x ∷ xs) ys h g =
     let q = both (is_digit x || x == 44) (list_all (λ b. is_digit b || b == 44) xs) h in
     rw q.0 (count_bytes_append xs ys q.1 g)
 
--- what was read of an interval has digits and commas alone
-pub counted_bytes : (i : Interval) (z : List ℕ) → Counted z i → list_all (λ b. is_digit b || b == 44) z ≡ true
-counted_bytes interval.Start z h = ap (list_all (λ b. is_digit b || b == 44)) h
-counted_bytes (interval.Low v c) z (h, l) = digits_count z h.digits
-counted_bytes (interval.Comma m) z (x, e, h) =
+-- the text of an interval has digits and commas alone
+pub interval_bytes : (w : List ℕ) (m : ℕ) (n : Option ℕ) → IsInterval w m n → list_all (λ b. is_digit b || b == 44) w ≡ true
+interval_bytes w m None (x, e, h) =
     ap (list_all (λ b. is_digit b || b == 44)) e ∙ count_bytes_append x (44 ∷ []) (digits_count x h.digits) refl
-counted_bytes (interval.High m v c) z (x, y, e, h, k, l, g) =
+interval_bytes w m (Some n) (inl (e, h)) = digits_count w h.digits
+interval_bytes w m (Some n) (inr (x, y, e, h, k, l)) =
     ap (list_all (λ b. is_digit b || b == 44)) e ∙ count_bytes_append x (44 ∷ y) (digits_count x h.digits) (digits_count y k.digits)
+
+pub bytes_front : (xs ys : List ℕ) → list_all (λ b. is_digit b || b == 44) (xs ++ ys) ≡ true → list_all (λ b. is_digit b || b == 44) xs ≡ true
+bytes_front [] ys h = refl
+bytes_front (x ∷ xs) ys h =
+    let q = both (is_digit x || x == 44) (list_all (λ b. is_digit b || b == 44) (xs ++ ys)) h in
+    rw q.0 (bytes_front xs ys q.1)

@@ -3,10 +3,12 @@ pub mod CellLemmas
 pub mod Told
 pub mod Runs
 pub mod IntervalRuns
+pub mod ClassNames
 pub mod BracketRuns
 pub mod Complete
 pub mod Sound
 pub mod IntervalSound
+pub mod IntervalClosing
 pub mod BracketSound
 pub mod Meaning
 pub mod Reading

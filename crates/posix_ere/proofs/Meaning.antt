@@ -26,14 +26,17 @@ use Rattle.posix_ere.specs.declared.interval.Interval.{Interval}
 use Rattle.posix_ere.specs.declared.interval.Interval.TheVariants as interval
 use Rattle.posix_ere.specs.declared.interval.Counting.{Counting}
 use Rattle.posix_ere.specs.declared.interval.Counting.TheVariants as counting
-use Rattle.posix_ere.specs.declared.bracket.Listing.{Listing}
-use Rattle.posix_ere.specs.declared.bracket.Listing.TheVariants as listing
+use Rattle.posix_ere.specs.BracketMachine.{Listing}
+use Rattle.posix_ere.specs.BracketMachine.{Listing as listing}
 use Rattle.posix_ere.specs.declared.frame.Frame.{Frame}
 use Rattle.posix_ere.specs.declared.frame.Mode.{Mode}
 use Rattle.posix_ere.specs.declared.frame.Mode.TheVariants as mode
 use Rattle.posix_ere.proofs.BracketRuns.{same_byte, listed_marks, no_marks_on}
 use Rattle.posix_ere.proofs.Sound.{between_of, nest_idle, Nest, nest_more, nest_open, nest_close, here_anchor, here_atom, here_repeat, here_bar, here_ended}
-use Rattle.posix_ere.proofs.IntervalSound.{Counted, counted_more, counted_done, counted_bytes}
+use Rattle.posix_ere.proofs.IntervalSound.{Counted, counted_more, counted_done}
+use Rattle.posix_ere.proofs.IntervalClosing.{counted_part}
+use Rattle.posix_ere.proofs.Runs.{run_on, run_one}
+use Rattle.posix_ere.proofs.Contexts.{not_nothing}
 use Rattle.posix_ere.proofs.BracketSound.{Listed, Outcome, list_sound, BracketWhy, tail, part_of}
 
 -- the text is groups and whole pieces
@@ -127,7 +130,7 @@ if_read p s t b c a e v x h = at s.top.repeatable refl
   where
     at : (r : Bool) → s.top.repeatable ≡ r → Next p b (if r then Ok t else Err w.NothingToRepeat)
     at true f = h f
-    at false f = (printable_at b c e v, (repeat_at b c e x, between p s a, nest_idle p s.stack s.frames s.top s.opened a f))
+    at false f = (printable_at b c e v, (repeat_at b c e x, nest_idle p s.stack s.frames s.top s.opened a f))
 
 close_read : (p : List ℕ) (s : State) (b : ℕ) (fs : List Frame) → s.mode ≡ mode.Plain → b ≡ 41 → s.frames ≡ fs → At p s → Next p b (closed s fs)
 close_read p s b [] m e f h =
@@ -168,26 +171,27 @@ plain_read p s b sign.Ordinary m e h = atom_read p s (b ∷ []) (n.Byte b) no_ma
 plain_read p s b sign.Outside m e h = (b, refl, e)
 
 escape_read : (p : List ℕ) (s : State) (b : ℕ) (t q : Bool) → is_special b ≡ t → is_printable b ≡ q → Means mode.Escape p s
-    → Next p b (if t then Ok (with_leaf (n.Byte b) no_marks true s) else (if q then Err w.BadEscape else Err w.NotAscii))
+    → Next p b (if t then Ok (with_leaf (n.Byte b) no_marks true s) else Err (if q then w.BadEscape else w.NotAscii))
 escape_read p s b true q h g (x, e, a) =
     subst (λ y. At y (with_leaf (n.Byte b) no_marks true s)) (sym (ap (λ y. y ++ b ∷ []) e ∙ append_assoc x (92 ∷ []) (b ∷ [])))
     (atom_read x s (92 ∷ b ∷ []) (n.Byte b) no_marks (byte b) refl (inr (refl, h)) a)
 escape_read p s b false true h g (x, e, a) = (g, (x, e, between x s a))
 escape_read p s b false false h g x = (b, refl, g)
 
-broken_read : (p : List ℕ) (b : ℕ) (q : Bool) → is_printable b ≡ q → InInterval p → Next p b (if q then Err w.BadInterval else Err w.NotAscii)
+broken_read : (p : List ℕ) (b : ℕ) (q : Bool) → is_printable b ≡ q → InInterval p → Next p b (Err (if q then w.BadInterval else w.NotAscii))
 broken_read p b true h x = (h, x)
 broken_read p b false h x = (b, refl, h)
 
-interval_read : (p : List ℕ) (s : State) (b : ℕ) (i : Interval) (r : Counting) → count_step i b ≡ r → Means (mode.Interval i) p s → Next p b (interval_step s b r)
-interval_read p s b i (counting.More j) h (q, z, e, a, t, c) =
+interval_read : (p : List ℕ) (s : State) (b : ℕ) (i : Interval) (r : Counting) → run machine.start p ≡ Ok s → count_step i b ≡ r → Means (mode.Interval i) p s → Next p b (interval_step s b r)
+interval_read p s b i (counting.More j) ran h (q, z, e, a, t, c) =
     (q, z ++ b ∷ [], ap (λ y. y ++ b ∷ []) e ∙ append_assoc q (123 ∷ z) (b ∷ []), a, t, counted_more i z b j c h)
-interval_read p s b i (counting.Done low high) h (q, z, e, a, t, c) =
+interval_read p s b i (counting.Done low high) ran h (q, z, e, a, t, c) =
     let d = counted_done i z b low high c h in
     subst (λ y. At y (with_repeat low high s)) (sym (ap (λ y. y ++ b ∷ []) e ∙ append_assoc q (123 ∷ z) (b ∷ [])))
     (subst (λ x. At (q ++ (123 ∷ (z ++ x ∷ []))) (with_repeat low high s)) (sym d.0)
     (repeat_read q (123 ∷ (z ++ 125 ∷ [])) s low high t (inr (inr (inr (z, refl, d.1)))) a))
-interval_read p s b i counting.Broken h (q, z, e, a, t, c) = broken_read p b (is_printable b) refl (q, z, e, between q s a, counted_bytes i z c)
+interval_read p s b i counting.Broken ran h (q, z, e, a, t, c) =
+    broken_read p b (is_printable b) refl (q, z, e, between q s a, not_nothing p q z s ran e, counted_part i z c)
 
 bracket_why : (p : List ℕ) (s : State) (b : ℕ) (why : Why) (q z : List ℕ) → p ≡ q ++ 91 ∷ z → At q s → BracketWhy z b why → IsReason p (Some b) why
 bracket_why p s b w.NotAscii q z e a h = (b, refl, h)
@@ -214,27 +218,32 @@ bracket_read p s b (listing.Done negated marks) q z e a o =
     (atom_read q s (91 ∷ (z ++ 93 ∷ [])) (n.Set negated) marks (set negated x) refl (o.is, l, o.bracket) a))
 bracket_read p s b (listing.Broken why) q z e a o = bracket_why p s b why q z e a o
 
-mode_read : (m : Mode) (p : List ℕ) (s : State) (b : ℕ) → s.mode ≡ m → Means m p s → Next p b (mode_step m s b)
-mode_read mode.Plain p s b e h = plain_read p s b (sign_of b) e (sign_is b) h
-mode_read mode.Escape p s b e h = escape_read p s b (is_special b) (is_printable b) refl refl h
-mode_read (mode.Interval i) p s b e h = interval_read p s b i (count_step i b) refl h
-mode_read (mode.Bracket k) p s b e (q, z, f, a, l) = bracket_read p s b (list_step k b) q z f a (list_sound z b k l)
+mode_read : (m : Mode) (p : List ℕ) (s : State) (b : ℕ) → run machine.start p ≡ Ok s → s.mode ≡ m → Means m p s → Next p b (mode_step m s b)
+mode_read mode.Plain p s b ran e h = plain_read p s b (sign_of b) e (sign_is b) h
+mode_read mode.Escape p s b ran e h = escape_read p s b (is_special b) (is_printable b) refl refl h
+mode_read (mode.Interval i) p s b ran e h = interval_read p s b i (count_step i b) ran refl h
+mode_read (mode.Bracket k) p s b ran e (q, z, f, a, l) = bracket_read p s b (list_step k b) q z f a (list_sound z b k l)
 
-pub step_read : (p : List ℕ) (s : State) (b : ℕ) → Meaning p s → Next p b (step s b)
+pub step_read : (p : List ℕ) (s : State) (b : ℕ) → run machine.start p ≡ Ok s → Meaning p s → Next p b (step s b)
 unfolding step
-step_read p s b h = mode_read s.mode p s b refl h
+step_read p s b ran h = mode_read s.mode p s b ran refl h
 
 abbrev pub Ran : List ℕ → Result State Why → Type 0
 Ran p (Ok t) = Meaning p t
 Ran p (Err why) = Unit {0}
 
-pub run_read : (p bs : List ℕ) (s : State) → Meaning p s → Ran (p ++ bs) (run s bs)
-run_read p [] s h = subst (λ x. Meaning x s) (sym (append-nil p)) h
-run_read p (b ∷ bs) s h = go (step s b) (step_read p s b h) (λ t x. run_read (p ++ b ∷ []) bs t x)
+ran_more : (p : List ℕ) (s t : State) (b : ℕ) → run machine.start p ≡ Ok s → step s b ≡ Ok t → run machine.start (p ++ b ∷ []) ≡ Ok t
+ran_more p s t b r e = run_on machine.start s p (b ∷ []) r ∙ run_one s t b [] e
+
+pub run_read : (p bs : List ℕ) (s : State) → run machine.start p ≡ Ok s → Meaning p s → Ran (p ++ bs) (run s bs)
+run_read p [] s ran h = subst (λ x. Meaning x s) (sym (append-nil p)) h
+run_read p (b ∷ bs) s ran h =
+    go (step s b) refl (step_read p s b ran h) (λ t e x. run_read (p ++ b ∷ []) bs t (ran_more p s t b ran e) x)
   where
-    go : (r : Result State Why) → Next p b r → ((t : State) → Meaning (p ++ b ∷ []) t → Ran ((p ++ b ∷ []) ++ bs) (run t bs)) → Ran (p ++ b ∷ bs) (after r (λ t. run t bs))
-    go (Ok t) h f = subst (λ x. Ran x (run t bs)) (append_assoc p (b ∷ []) bs) (f t h)
-    go (Err why) h f = tt
+    go : (r : Result State Why) → step s b ≡ r → Next p b r
+        → ((t : State) → step s b ≡ Ok t → Meaning (p ++ b ∷ []) t → Ran ((p ++ b ∷ []) ++ bs) (run t bs)) → Ran (p ++ b ∷ bs) (after r (λ t. run t bs))
+    go (Ok t) e h f = subst (λ x. Ran x (run t bs)) (append_assoc p (b ∷ []) bs) (f t e h)
+    go (Err why) e h f = tt
 
 pub start_read : Meaning [] machine.start
 start_read = (
@@ -256,7 +265,7 @@ start_read = (
 
 -- what the machine accepts is read
 pub run_meaning : (p : List ℕ) (s : State) → run machine.start p ≡ Ok s → Meaning p s
-run_meaning p s e = subst (Ran p) e (run_read [] p machine.start start_read)
+run_meaning p s e = subst (Ran p) e (run_read [] p machine.start refl start_read)
 
 pub record Accepted (p : List ℕ) (s : State) (stack : List Tree) : Type 0 where
   pub reads : Reads p (top_of stack)
@@ -286,7 +295,7 @@ accepted p s stack e f = finish_read s.mode p s stack (run_meaning p s e) f
 
 -- why the machine refuses a byte
 pub step_why : (p : List ℕ) (s : State) (b : ℕ) (why : Why) → run machine.start p ≡ Ok s → step s b ≡ Err why → IsReason p (Some b) why
-step_why p s b why h e = subst (Next p b) e (step_read p s b (run_meaning p s h))
+step_why p s b why h e = subst (Next p b) e (step_read p s b h (run_meaning p s h))
 
 -- why the text may not end here
 same_why : (a b : Why) → ◌≡◌ {A = Result (List Tree) Why} (Err a) (Err b) → a ≡ b
@@ -298,14 +307,14 @@ end_plain p s (g ∷ fs) why f a e =
     subst (IsReason p None) (same_why w.OpenGroup why e)
     (refl, (length fs, s.opened, between_of p s.stack (g ∷ fs) s.top s.opened (subst (λ y. Nest p s.stack y s.top s.opened) f a)))
 
-end_why : (m : Mode) (p : List ℕ) (s : State) (why : Why) → Means m p s → finish_at m s ≡ Err why → IsReason p None why
-end_why mode.Plain p s why h e = end_plain p s s.frames why refl h e
-end_why mode.Escape p s why (q, f, a) e = subst (IsReason p None) (same_why w.BadEscape why e) (tt, (q, f, between q s a))
-end_why (mode.Interval i) p s why (q, z, f, a, r, c) e =
-    subst (IsReason p None) (same_why w.BadInterval why e) (tt, (q, z, f, between q s a, counted_bytes i z c))
-end_why (mode.Bracket k) p s why (q, z, f, a, l) e =
+end_why : (m : Mode) (p : List ℕ) (s : State) (why : Why) → run machine.start p ≡ Ok s → Means m p s → finish_at m s ≡ Err why → IsReason p None why
+end_why mode.Plain p s why ran h e = end_plain p s s.frames why refl h e
+end_why mode.Escape p s why ran (q, f, a) e = subst (IsReason p None) (same_why w.BadEscape why e) (tt, (q, f, between q s a))
+end_why (mode.Interval i) p s why ran (q, z, f, a, r, c) e =
+    subst (IsReason p None) (same_why w.BadInterval why e) (tt, (q, z, f, between q s a, not_nothing p q z s ran f, counted_part i z c))
+end_why (mode.Bracket k) p s why ran (q, z, f, a, l) e =
     subst (IsReason p None) (same_why w.OpenBracket why e) (refl, (tail k.phase, (q, z, f, between q s a, part_of z k.negated k.marks k.phase l)))
 
 pub finish_why : (p : List ℕ) (s : State) (why : Why) → run machine.start p ≡ Ok s → finish s ≡ Err why → IsReason p None why
 unfolding finish
-finish_why p s why h e = end_why s.mode p s why (run_meaning p s h) e
+finish_why p s why h e = end_why s.mode p s why h (run_meaning p s h) e

@@ -7,7 +7,7 @@ use Rattle.posix_ere.specs.Parts.{weight}
 use Rattle.posix_ere.specs.Ascii.{is_printable, is_lower}
 use Rattle.posix_ere.specs.Bracket.{name_of}
 use Rattle.posix_ere.specs.Places.{IsBrokenPlace}
-use Rattle.posix_ere.specs.Reasons.{IsReason, Between, InInterval, InEscape, InBracket, EndOrPrintable}
+use Rattle.posix_ere.specs.Reasons.{IsReason, Between, AfterNothing, InInterval, InEscape, InBracket, EndOrPrintable}
 use Rattle.posix_ere.specs.Answers.{HasOneReason, HasOneFault}
 use Rattle.posix_ere.specs.Machine.{State, start, run}
 use Rattle.posix_ere.specs.declared.class.Class.{Class}
@@ -17,7 +17,7 @@ use Rattle.posix_ere.specs.declared.why.Why.TheVariants as w
 use Rattle.posix_ere.specs.declared.why.EreFault.TheVariants.{Broken, TooHeavy, Memory}
 use Rattle.posix_ere.specs.declared.frame.Mode.{Mode}
 use Rattle.posix_ere.specs.declared.frame.Mode.TheVariants as mode
-use Rattle.posix_ere.proofs.Contexts.{last_of, last_from, last_all, front_all, is_counting, between_mode, escape_mode, Counts, interval_mode, Brackets, bracket_mode, last_part}
+use Rattle.posix_ere.proofs.Contexts.{last_of, last_from, last_all, front_all, is_counting, between_mode, nothing_mode, escape_mode, Counts, interval_mode, Brackets, bracket_mode, last_part}
 use Rattle.posix_ere.proofs.Reading.{one_tree}
 
 -- what is open before a place
@@ -46,6 +46,9 @@ context_ok p s m e h = ap (context_after (last_of p)) e ∙ ap context_of h
 
 context_between : (p : List ℕ) → Between p → context p ≡ groups_alone
 context_between p h = let r = between_mode p h in context_ok p r.0 mode.Plain r.1 r.2
+
+context_nothing : (p : List ℕ) → AfterNothing p → context p ≡ groups_alone
+context_nothing p h = let r = nothing_mode p h in context_ok p r.0 mode.Plain r.1 r.2
 
 context_escape : (p : List ℕ) → InEscape p → context p ≡ escape
 context_escape p h = let r = escape_mode p h in context_ok p r.0 mode.Escape r.1 r.2
@@ -150,8 +153,8 @@ row p next w.OpenBracket (e, (y, h)) = ap (told (context p) (last_of p)) e ∙ a
 row p next w.OpenGroup (e, (d, k, h)) = ap (told (context p) (last_of p)) e ∙ ap at_end (context_between p (suc d, k, h))
 row p next w.StrayClose (e, (k, h)) =
     ap (told (context p) (last_of p)) e ∙ ap (λ x. told x (last_of p) (Some 41)) (context_between p (0, k, h))
-row p (Some b) w.NothingToRepeat (v, (m, h, n)) =
-    ap (λ x. told x (last_of p) (Some b)) (context_between p h) ∙ (told_printable groups_alone (last_of p) b v ∙ not_close b m)
+row p (Some b) w.NothingToRepeat (v, (m, h)) =
+    ap (λ x. told x (last_of p) (Some b)) (context_nothing p h) ∙ (told_printable groups_alone (last_of p) b v ∙ not_close b m)
 row p None w.NothingToRepeat h = absurd h
 
 pub one_reason : HasOneReason

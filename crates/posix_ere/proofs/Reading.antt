@@ -9,16 +9,16 @@ use Rattle.posix_ere.specs.Tree.{Tree}
 use Rattle.posix_ere.specs.Parts.{groups, weight}
 use Rattle.posix_ere.specs.Grammar.{Reads}
 use Rattle.posix_ere.specs.Machine.{State, step, run, after, finish, finish_at, finish_plain, top_of, start, Fair, Stops, Ends}
-use Rattle.posix_ere.specs.Answers.{IsFaultOf, IsFaultAt}
+use Rattle.posix_ere.specs.Answers.{PrefixesClose, IsFaultOf, IsFaultAt}
 use Rattle.posix_ere.specs.declared.why.EreFault.{EreFault}
 use Rattle.posix_ere.specs.declared.why.EreFault.TheVariants.{Broken, TooHeavy, Memory}
 use Rattle.posix_ere.specs.declared.why.Why.{Why}
-use Rattle.posix_ere.proofs.Runs.{run_on, same_ok, err_not_ok, fair_start, fair_step}
+use Rattle.posix_ere.proofs.Runs.{run-append, run_on, same_ok, err_not_ok, fair_start, fair_step}
 use Rattle.posix_ere.proofs.Complete.{Read, runs_expression}
 use Rattle.posix_ere.proofs.Meaning.{accepted, step_why, finish_why}
 use Rattle.posix_ere.specs.Reasons.{IsReason}
 use Rattle.std.specs.List.{slice_get}
-use Rattle.posix_ere.proofs.BracketSound.{take_next}
+use Rattle.posix_ere.proofs.ClassNames.{take_next}
 use Rattle.posix_ere.proofs.Closing.{can_be_closed}
 use Rattle.posix_ere.specs.Places.{CanBeClosed, IsBrokenPlace}
 
@@ -80,6 +80,16 @@ same_byte_again text x i n l m =
 
 longer_than : (text x : List ℕ) (i n : ℕ) → i < n → n ≤ length text → i < length (take n text ++ x)
 longer_than text x i n l m = omega (arith, length-take-le n text m, length-append (take n text) x)
+
+-- a prefix of a text with a tree can be closed
+pub prefix_closes : PrefixesClose
+prefix_closes p rest t h =
+    let c = complete (p ++ rest) t h in
+    go (run start p) refl (sym (run-append start p rest) ∙ c.1)
+  where
+    go : {s : State} (r : Result State Why) → run start p ≡ r → after r (λ u. run u rest) ≡ Ok s → CanBeClosed p
+    go (Ok u) e f = can_be_closed p u e
+    go {s} (Err why) e f = absurd (err_not_ok why s f)
 
 -- the byte that is refused is at the broken place
 place_stuck : (text : List ℕ) (i : ℕ) (s : State) (why : Why) → Going text i s → i < length text → step s (get_or text i 0) ≡ Err why → IsBrokenPlace text i

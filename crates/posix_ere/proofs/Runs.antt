@@ -2,7 +2,7 @@
 use Rattle.std.proofs.Common.{ℕ, ◌≡◌, ◌+◌, ◌≤◌, Bool, true, false, List, [], ◌∷◌, ◌++◌, refl, sym, ◌∙◌, ap, subst, arith, Result, Ok, Err, Option, Some, None}
 use Rattle.std.specs.Prelude.{if◌then◌else◌}
 use Rattle.std.proofs.lemmas.List.{length-drop}
-use Rattle.posix_ere.specs.Ascii.{is_printable, is_special}
+use Rattle.posix_ere.specs.Ascii.{is_special}
 use Rattle.posix_ere.specs.Cells.{put}
 use Rattle.posix_ere.specs.Machine.{State, step, run, after, mode_step, plain_step, interval_step, bracket_step, closed, if_repeatable, with_leaf, with_repeat, with_branch, with_group, ended, no_marks, Fair, FairMode, held, start, sign_of}
 use Rattle.posix_ere.specs.IntervalMachine.{count_step}
@@ -15,8 +15,8 @@ use Rattle.posix_ere.specs.declared.sign.Sign.{Sign}
 use Rattle.posix_ere.specs.declared.sign.Sign.TheVariants as sign
 use Rattle.posix_ere.specs.declared.interval.Counting.{Counting}
 use Rattle.posix_ere.specs.declared.interval.Counting.TheVariants as counting
-use Rattle.posix_ere.specs.declared.bracket.Listing.{Listing}
-use Rattle.posix_ere.specs.declared.bracket.Listing.TheVariants as listing
+use Rattle.posix_ere.specs.BracketMachine.{Listing}
+use Rattle.posix_ere.specs.BracketMachine.{Listing as listing}
 use Rattle.posix_ere.specs.declared.frame.Frame.{Frame}
 use Rattle.posix_ere.specs.declared.frame.Mode.{Mode}
 use Rattle.posix_ere.specs.declared.frame.Mode.TheVariants as mode
@@ -46,10 +46,6 @@ err_not_ok why t e = cc
 pub when_ok : (b : Bool) (s t : State) (why : Why) → ◌≡◌ {A = Result State Why} (if b then Ok s else Err why) (Ok t) → (b ≡ true) × (s ≡ t)
 when_ok true s t why e = (refl, same_ok s t e)
 when_ok false s t why e = absurd (err_not_ok why t e)
-
-pub two_errs : (b : Bool) (v w : Why) (t : State) → ◌≡◌ {A = Result State Why} (if b then Err v else Err w) (Ok t) → ⊥
-two_errs true v w t e = err_not_ok v t e
-two_errs false v w t e = err_not_ok w t e
 
 -- what stays fair from byte to byte
 pub fair_start : Fair 0 start
@@ -139,15 +135,14 @@ module _ (k : ℕ) (s : State) (f : Fair k s) where
   fair_plain b sign.Ordinary t m e = subst (Fair (k + 1)) (same_ok _ t e) (fair_leaf (n.Byte b) no_marks true)
   fair_plain b sign.Outside t m e = absurd (err_not_ok w.NotAscii t e)
 
-  fair_escape : (b : ℕ) (p q : Bool) (t : State)
-      → ◌≡◌ {A = Result State Why} (if p then Ok (with_leaf (n.Byte b) (no_marks) true s) else (if q then Err w.BadEscape else Err w.NotAscii)) (Ok t) → Fair (k + 1) t
-  fair_escape b true q t e = subst (Fair (k + 1)) (same_ok _ t e) (fair_leaf (n.Byte b) no_marks true)
-  fair_escape b false q t e = absurd (two_errs q w.BadEscape w.NotAscii t e)
+  fair_escape : (b : ℕ) (p : Bool) (why : Why) (t : State) → ◌≡◌ {A = Result State Why} (if p then Ok (with_leaf (n.Byte b) no_marks true s) else Err why) (Ok t) → Fair (k + 1) t
+  fair_escape b true why t e = subst (Fair (k + 1)) (same_ok _ t e) (fair_leaf (n.Byte b) no_marks true)
+  fair_escape b false why t e = absurd (err_not_ok why t e)
 
   fair_interval : (b : ℕ) (r : Counting) (t : State) → s.top.repeatable ≡ true → interval_step s b r ≡ Ok t → Fair (k + 1) t
   fair_interval b (counting.More i) t h e = subst (Fair (k + 1)) (same_ok _ t e) (fair_mode _ h)
   fair_interval b (counting.Done low high) t h e = subst (Fair (k + 1)) (same_ok _ t e) (fair_repeat low high h)
-  fair_interval b counting.Broken t h e = absurd (two_errs (is_printable b) w.BadInterval w.NotAscii t e)
+  fair_interval b counting.Broken t h e = absurd (err_not_ok _ t e)
 
   fair_bracket : (r : Listing) (t : State) → bracket_step s r ≡ Ok t → Fair (k + 1) t
   fair_bracket (listing.More x) t e = subst (Fair (k + 1)) (same_ok _ t e) (fair_mode _ tt)
@@ -156,7 +151,7 @@ module _ (k : ℕ) (s : State) (f : Fair k s) where
 
   fair_at : (m : Mode) (b : ℕ) (t : State) → s.mode ≡ m → FairMode m s.top.repeatable → mode_step m s b ≡ Ok t → Fair (k + 1) t
   fair_at mode.Plain b t m h e = fair_plain b (sign_of b) t m e
-  fair_at mode.Escape b t m h e = fair_escape b (is_special b) (is_printable b) t e
+  fair_at mode.Escape b t m h e = fair_escape b (is_special b) _ t e
   fair_at (mode.Interval i) b t m h e = fair_interval b (count_step i b) t h e
   fair_at (mode.Bracket x) b t m h e = fair_bracket (list_step x b) t e
 

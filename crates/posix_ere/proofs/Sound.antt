@@ -279,39 +279,71 @@ between_of p stack (f ∷ fs) top o (q, w, rest, j, s, h, number, r) =
     let e = here_ended w stack rest top (suc j) o h in
     (q, w, j, e.tree, s, between_of q rest fs f j r, e.reads, e.counted)
 
--- after nothing, or after an anchor
-abbrev IdleHere : List ℕ → Type 0
-IdleHere w = (w ≡ []) ⊎ ((q : List ℕ) × (x : ℕ) × (w ≡ q ++ x ∷ []) × ((x == 40 || x == 124 || x == 94 || x == 36) ≡ true))
+-- at the start of the innermost alternatives, or after a bar or an anchor of them
+abbrev IdleHere : ℕ → List ℕ → Type 0
+IdleHere k w =
+    (w ≡ []) ⊎ ((q : List ℕ) × (x : ℕ) × (t : Tree) × (w ≡ q ++ x ∷ []) × IsExpression k q t × ((x == 40 || x == 124 || x == 94 || x == 36) ≡ true))
 
-anchor_last : (t : Tree) (before u v : List ℕ) → IsAnchor v t → IdleHere (before ++ (u ++ v))
-anchor_last (atom start) before u v h = inr (before ++ u, 94, ap (λ x. before ++ (u ++ x)) h ∙ sym (append_assoc before u (94 ∷ [])), refl)
-anchor_last (atom end) before u v h = inr (before ++ u, 36, ap (λ x. before ++ (u ++ x)) h ∙ sym (append_assoc before u (36 ∷ [])), refl)
-anchor_last (atom (byte b)) before u v h = absurd h
-anchor_last (atom any) before u v h = absurd h
-anchor_last (atom (set a b)) before u v h = absurd h
-anchor_last (alt ts) before u v h = absurd h
-anchor_last (branch ts) before u v h = absurd h
-anchor_last (group g t) before u v h = absurd h
-anchor_last (rep a b t) before u v h = absurd h
+-- the byte of an anchor
+anchor_byte : (t : Tree) (v : List ℕ) → IsAnchor v t → (x : ℕ) × (v ≡ x ∷ []) × ((x == 40 || x == 124 || x == 94 || x == 36) ≡ true)
+anchor_byte (atom start) v h = (94, h, refl)
+anchor_byte (atom end) v h = (36, h, refl)
+anchor_byte (atom (byte b)) v h = absurd h
+anchor_byte (atom any) v h = absurd h
+anchor_byte (atom (set a b)) v h = absurd h
+anchor_byte (alt ts) v h = absurd h
+anchor_byte (branch ts) v h = absurd h
+anchor_byte (group g t) v h = absurd h
+anchor_byte (rep a b t) v h = absurd h
 
-branches_last : (k : ℕ) (bs : List Tree) (w : List ℕ) → BranchesBack k w bs → IdleHere w
-branches_last k [] w h = inl h
-branches_last k (b ∷ bs) w (u, v, e, h, i) = inr (u ++ v, 124, e ∙ sym (append_assoc u v (124 ∷ [])), refl)
+branches_idle : (k : ℕ) (bs : List Tree) (w : List ℕ) → BranchesBack k w bs → IdleHere k w
+branches_idle k [] w h = inl h
+branches_idle k (b ∷ bs) w (u, v, e, h, i) =
+    inr (
+      u ++ (v ++ []),
+      124,
+      alt (gather bs (more b none)),
+      e ∙ (ap (λ y. u ++ (y ++ 124 ∷ [])) (sym (append-nil v)) ∙ sym (append_assoc u (v ++ []) (124 ∷ []))),
+      branches_gathered bs b none k u v [] h i refl,
+      refl,
+    )
 
-row_last : (k j : ℕ) (bs row : List Tree) (w before last : List ℕ) → w ≡ before ++ last → BranchesBack j before bs → Row false k last row → IdleHere w
-row_last k j bs [] w before last e h r =
-    subst IdleHere (sym (e ∙ (ap (λ x. before ++ x) r ∙ append-nil before))) (branches_last j bs before h)
-row_last k j bs (t ∷ ts) w before last e h (u, v, f, g, a) =
-    subst IdleHere (sym (e ∙ ap (λ x. before ++ x) f)) (anchor_last t before u v a)
+row_idle : (k : ℕ) (bs row : List Tree) (w before last : List ℕ) → w ≡ before ++ last → BranchesBack k before bs → Row false (k + groups_of_all bs) last row → IdleHere k w
+row_idle k bs [] w before last e h r = subst (IdleHere k) (sym (e ∙ (ap (λ x. before ++ x) r ∙ append-nil before))) (branches_idle k bs before h)
+row_idle k bs (t ∷ ts) w before last e h (u, v, f, g, a) =
+    let x = anchor_byte t v a in
+    let b = branch (gather ts none) in
+    let i : IsBranch (k + groups_of_all bs) (u ++ []) b = pieces_gathered ts none (k + groups_of_all bs) u [] g refl in
+    let j : w ≡ before ++ ((u ++ []) ++ x.0 ∷ []) =
+    e ∙ (ap (λ y. before ++ y) (f ∙ ap (λ y. u ++ y) x.1) ∙ ap (λ y. before ++ (y ++ x.0 ∷ [])) (sym (append-nil u))) in
+    inr (
+      before ++ ((u ++ []) ++ []),
+      x.0,
+      alt (gather bs (more b none)),
+      j ∙ (ap (λ y. before ++ (y ++ x.0 ∷ [])) (sym (append-nil (u ++ []))) ∙ sym (append_assoc before ((u ++ []) ++ []) (x.0 ∷ []))),
+      branches_gathered bs b none k before (u ++ []) [] h i refl,
+      x.2,
+    )
 
-here_idle : (w : List ℕ) (stack rest : List Tree) (top : Frame) (k o : ℕ) → Here w stack rest top k o → top.repeatable ≡ false → IdleHere w
+here_idle : (w : List ℕ) (stack rest : List Tree) (top : Frame) (k o : ℕ) → Here w stack rest top k o → top.repeatable ≡ false → IdleHere k w
 here_idle w stack rest top k o h e =
-    row_last (k + groups_of_all h.done) k h.done h.row w h.before h.last h.split h.ended (subst (λ b. Row b (k + groups_of_all h.done) h.last h.row) e h.going)
-
-idle_in : (p q w : List ℕ) → p ≡ q ++ 40 ∷ w → IdleHere w → AfterNothing p
-idle_in p q w e (inl h) = inr (q, 40, e ∙ ap (λ x. q ++ 40 ∷ x) h, refl)
-idle_in p q w e (inr (u, x, h, v)) = inr (q ++ 40 ∷ u, x, e ∙ (ap (λ y. q ++ 40 ∷ y) h ∙ sym (append_assoc q (40 ∷ u) (x ∷ []))), v)
+    row_idle k h.done h.row w h.before h.last h.split h.ended (subst (λ b. Row b (k + groups_of_all h.done) h.last h.row) e h.going)
 
 pub nest_idle : (p : List ℕ) (stack : List Tree) (fs : List Frame) (top : Frame) (o : ℕ) → Nest p stack fs top o → top.repeatable ≡ false → AfterNothing p
-nest_idle p stack [] top o (h, number) e = here_idle p stack [] top 0 o h e
-nest_idle p stack (f ∷ fs) top o (q, w, rest, j, s, h, number, r) e = idle_in p q w s (here_idle w stack rest top (suc j) o h e)
+nest_idle p stack [] top o (h, number) e = go (here_idle p stack [] top 0 o h e)
+  where
+    go : IdleHere 0 p → AfterNothing p
+    go (inl x) = inl x
+    go (inr (q, x, t, f, r, v)) = inr (q, x, f, (0, groups t, (t, r, refl)), v)
+nest_idle p stack (f ∷ fs) top o (q, w, rest, j, s, h, number, r) e = go (between_of q rest fs f j r) (here_idle w stack rest top (suc j) o h e)
+  where
+    go : IsBetween (length fs) j q → IdleHere (suc j) w → AfterNothing p
+    go b (inl x) = inr (q, 40, s ∙ ap (λ y. q ++ 40 ∷ y) x, (length fs, j, b), refl)
+    go b (inr (u, x, t, g, i, v)) =
+        inr (
+          q ++ 40 ∷ u,
+          x,
+          s ∙ (ap (λ y. q ++ 40 ∷ y) g ∙ sym (append_assoc q (40 ∷ u) (x ∷ []))),
+          (suc (length fs), suc j + groups t, (q, u, j, t, refl, b, i, refl)),
+          v,
+        )

@@ -1,4 +1,5 @@
--- Bracket expressions (IEEE 1003.1, Base Definitions, 9.3.5), in ASCII, with no collating symbol and no equivalence class.
+-- Bracket expressions (IEEE 1003.1, Base Definitions, 9.3.5), in ASCII, with no collating symbol and no equivalence
+-- class.
 use Rattle.std.specs.Prelude.{ℕ, zero, suc, ◌≡◌, Bool, true, false, not, ◌&&◌, ◌||◌, ◌==◌, nat_le, nat_lt, List, [], ◌∷◌, ◌++◌, codes, filter}
 use Rattle.std.specs.List.{list_any}
 use Rattle.posix_ere.specs.Ascii.{is_printable, is_digit, is_upper, is_lower, is_alpha, is_alnum}
@@ -77,12 +78,14 @@ goes_on_as_range [] = false
 goes_on_as_range (b ∷ []) = false
 goes_on_as_range (b ∷ c ∷ bs) = b == 45 && not (c == 93)
 
--- whether a byte may stand as an element before the rest: a `]` only in the first item, a `[` only before no `.`, `=`, `:`
+-- whether a byte may stand as an element before the rest: a `]` only in the first item, a `[` only before no `.`, `=`,
+-- `:`
 abbrev pub is_element : Bool → ℕ → List ℕ → Bool
 is_element first e rest =
     is_printable e && (first || not (e == 93)) && not (e == 91 && begins (λ b. b == 46 || b == 61 || b == 58) rest)
 
--- whether an item may stand before the rest: a `-` begins a range only in the first item, and stands alone only first or last
+-- whether an item may stand before the rest: a `-` begins a range only in the first item, and stands alone only first
+-- or last
 abbrev pub is_item : Bool → Item → List ℕ → Bool
 is_item first (single e) rest =
     is_element first e rest && not (goes_on_as_range rest) && (first || not (e == 45) || begins (λ b. b == 93) rest)

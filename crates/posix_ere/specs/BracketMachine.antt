@@ -1,6 +1,7 @@
 -- A bracket read a byte at a time.
-use Rattle.std.specs.Prelude.{ℕ, ◌+◌, ◌==◌, replicate, nat_lt, Bool, true, false, not, ◌||◌, ◌&&◌, if◌then◌else◌, List, length, map, Option, Some, None, slice_index_or}
-use Rattle.std.specs.List.{range_with_len}
+use Rattle.std.specs.Prelude.{ℕ, ◌+◌, ◌==◌, replicate, nat_lt, nat_eq, Bool, true, false, not, ◌||◌, ◌&&◌, if◌then◌else◌, List, [], ◌∷◌, length, map, take, Option, Some, None, Result, Ok, Err, slice_index_or}
+use Rattle.std.specs.Cmp.Lexicographic.{pointwise}
+use Rattle.std.specs.List.{find, range_with_len}
 use Rattle.posix_ere.specs.Ascii.{is_printable}
 use Rattle.posix_ere.specs.Bracket.{Item, name_of, has}
 use Rattle.posix_ere.specs.Bracket.Item.{single, range, members}
@@ -8,33 +9,45 @@ use Rattle.posix_ere.specs.declared.class.Class.{Class}
 use Rattle.posix_ere.specs.declared.class.Class.TheVariants.{Alnum, Alpha, Blank, Cntrl, Digit, Graph, Lower, Print, Punct, Space, Upper, Xdigit}
 use Rattle.posix_ere.specs.declared.bracket.Bracket.{Bracket}
 use Rattle.posix_ere.specs.declared.bracket.Phase.{Phase}
-use Rattle.posix_ere.specs.declared.bracket.Phase.TheVariants.{Start, First, Next, Element, Dash, Inner, RangeInner, Last, ClassStart, ClassName, ClassEnd}
-use Rattle.posix_ere.specs.declared.bracket.Listing.{Listing}
-use Rattle.posix_ere.specs.declared.bracket.Listing.TheVariants.{More, Done, Broken}
+use Rattle.posix_ere.specs.declared.bracket.Phase.TheVariants.{Start, First, Next, Element, Dash, Inner, RangeInner, Last, ClassName, ClassEnd}
+use Rattle.posix_ere.specs.declared.bracket.Progress.{Progress}
+use Rattle.posix_ere.specs.declared.bracket.Progress.TheVariants.{Open, Closed}
 use Rattle.posix_ere.specs.declared.why.Why.{Why}
 use Rattle.posix_ere.specs.declared.why.Why.TheVariants.{BadRange, BadClass, Collating, NotAscii}
 
--- the first class whose name begins with this letter
-abbrev pub first_class : ℕ → Option Class
-first_class b =
-    if b == 97 then Some Alnum else (if b == 98 then Some Blank else (if b == 99 then Some Cntrl
-    else (if b == 100 then Some Digit else (if b == 103 then Some Graph else (if b == 108 then Some Lower
-    else (if b == 112 then Some Print else (if b == 115 then Some Space else (if b == 117 then Some Upper
-    else (if b == 120 then Some Xdigit else None)))))))))
+-- the classes, in the order of their names
+abbrev pub classes : List Class
+classes = Alnum ∷ Alpha ∷ Blank ∷ Cntrl ∷ Digit ∷ Graph ∷ Lower ∷ Print ∷ Punct ∷ Space ∷ Upper ∷ Xdigit ∷ []
 
--- the first class whose name begins with the first n letters of this one's and then this letter: `alp` and `pu` change the class
-abbrev pub turned : Class → ℕ → ℕ → Option Class
-turned Alnum n b = if n == 2 && b == 112 then Some Alpha else None
-turned Print n b = if n == 1 && b == 117 then Some Punct else None
-turned _ n b = None
+-- whether a class's name begins with the first n letters of another's and then this letter
+abbrev pub goes_on : Class → ℕ → ℕ → Class → Bool
+goes_on c n b d =
+    nat_lt n (length (name_of d)) && slice_index_or (name_of d) n 0 == b
+    && pointwise nat_eq (take n (name_of d)) (take n (name_of c))
 
+-- the first class whose name begins so
 abbrev pub next_class : Class → ℕ → ℕ → Option Class
-next_class c n b =
-    if nat_lt n (length (name_of c)) && slice_index_or (name_of c) n 0 == b then Some c else turned c n b
+next_class c n b = find (goes_on c n b) classes
 
 -- the marks with those of one more item
 unfoldable pub marked : Item → List Bool → List Bool
 marked i marks = map (λ b. slice_index_or marks b false || has i b) (range_with_len 0 128)
+
+-- this reason at a byte, or that the byte is not printable
+abbrev pub reason_at : ℕ → Why → Why
+reason_at b why = if is_printable b then why else NotAscii
+
+-- a bracket after one more byte: it is open, or closed with its marks, or broken
+pub data Listing : Type 0 where
+  More : Bracket → Listing
+  Done : Bool → List Bool → Listing
+  Broken : Why → Listing
+
+-- what was answered at a byte, with the bracket as it stands after it
+abbrev pub answer : Result Progress Why → Bracket → Listing
+answer (Ok Open) k = More k
+answer (Ok Closed) k = Done k.negated k.marks
+answer (Err why) k = Broken why
 
 abbrev pub at_phase : Bool → List Bool → Phase → Listing
 at_phase negated marks phase = More (record { negated = negated; marks = marks; phase = phase })
@@ -47,8 +60,8 @@ begin_item first negated marks b =
     else (if b == 45 && not first then at_phase negated marks Last
     else (if is_printable b then at_phase negated marks (Element b) else Broken NotAscii)))
 
-abbrev pub start_step : List Bool → ℕ → Listing
-start_step marks b = if b == 94 then at_phase true marks First else begin_item true false marks b
+abbrev pub start_step : Bool → List Bool → ℕ → Listing
+start_step negated marks b = if b == 94 then at_phase true marks First else begin_item true negated marks b
 
 abbrev pub element_step : ℕ → Bool → List Bool → ℕ → Listing
 element_step e negated marks b =
@@ -68,7 +81,7 @@ dash_step e negated marks b =
 abbrev pub inner_step : Bool → List Bool → ℕ → Listing
 inner_step negated marks b =
     if b == 46 || b == 61 then Broken Collating
-    else (if b == 58 then at_phase negated marks ClassStart
+    else (if b == 58 then at_phase negated marks (ClassName Alnum 0)
     else element_step 91 negated marks b)
 
 -- after a `[` that ends a range
@@ -82,15 +95,11 @@ range_inner_step e negated marks b =
 abbrev pub last_step : Bool → List Bool → ℕ → Listing
 last_step negated marks b =
     if b == 93 then Done negated (marked (single 45) marks)
-    else (if is_printable b then Broken BadRange else Broken NotAscii)
-
--- the reason at a byte inside a class name or its closing
-abbrev pub class_fault : ℕ → Why
-class_fault b = if is_printable b then BadClass else NotAscii
+    else Broken (reason_at b BadRange)
 
 abbrev pub named : Bool → List Bool → ℕ → ℕ → Option Class → Listing
 named negated marks n b (Some c) = at_phase negated marks (ClassName c n)
-named negated marks n b None = Broken (class_fault b)
+named negated marks n b None = Broken (reason_at b BadClass)
 
 abbrev pub class_step : Class → ℕ → Bool → List Bool → ℕ → Listing
 class_step c n negated marks b =
@@ -99,10 +108,10 @@ class_step c n negated marks b =
 
 abbrev pub class_end_step : Class → Bool → List Bool → ℕ → Listing
 class_end_step c negated marks b =
-    if b == 93 then at_phase negated (marked (members c) marks) Next else Broken (class_fault b)
+    if b == 93 then at_phase negated (marked (members c) marks) Next else Broken (reason_at b BadClass)
 
 abbrev pub phase_step : Bool → List Bool → Phase → ℕ → Listing
-phase_step negated marks Start b = start_step marks b
+phase_step negated marks Start b = start_step negated marks b
 phase_step negated marks First b = begin_item true negated marks b
 phase_step negated marks Next b = begin_item false negated marks b
 phase_step negated marks (Element e) b = element_step e negated marks b
@@ -110,7 +119,6 @@ phase_step negated marks (Dash e) b = dash_step e negated marks b
 phase_step negated marks Inner b = inner_step negated marks b
 phase_step negated marks (RangeInner e) b = range_inner_step e negated marks b
 phase_step negated marks Last b = last_step negated marks b
-phase_step negated marks ClassStart b = named negated marks 1 b (first_class b)
 phase_step negated marks (ClassName c n) b = class_step c n negated marks b
 phase_step negated marks (ClassEnd c) b = class_end_step c negated marks b
 

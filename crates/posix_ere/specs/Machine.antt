@@ -7,7 +7,8 @@ use Rattle.posix_ere.specs.Tree.Trees.{none}
 use Rattle.posix_ere.specs.Parts.{weight}
 use Rattle.posix_ere.specs.Ascii.{is_printable, is_special}
 use Rattle.posix_ere.specs.IntervalMachine.{count_step}
-use Rattle.posix_ere.specs.BracketMachine.{list_step, begun}
+use Rattle.posix_ere.specs.BracketMachine.{Listing, list_step, begun, reason_at}
+use Rattle.posix_ere.specs.BracketMachine.{Listing as listing}
 use Rattle.posix_ere.specs.Cells.{put, stack_of}
 use Rattle.posix_ere.specs.declared.reader.Reader.{Reader}
 use Rattle.posix_ere.specs.declared.node.Node.{Node}
@@ -21,8 +22,6 @@ use Rattle.posix_ere.specs.declared.sign.Sign.TheVariants as sign
 use Rattle.posix_ere.specs.declared.interval.Interval.TheVariants as interval
 use Rattle.posix_ere.specs.declared.interval.Counting.{Counting}
 use Rattle.posix_ere.specs.declared.interval.Counting.TheVariants as counting
-use Rattle.posix_ere.specs.declared.bracket.Listing.{Listing}
-use Rattle.posix_ere.specs.declared.bracket.Listing.TheVariants as listing
 use Rattle.posix_ere.specs.declared.frame.Frame.{Frame}
 use Rattle.posix_ere.specs.declared.frame.Mode.{Mode}
 use Rattle.posix_ere.specs.declared.frame.Mode.TheVariants as mode
@@ -36,7 +35,8 @@ sign_of b =
     else (if b == 46 then sign.Dot else (if b == 94 then sign.Circumflex else (if b == 36 then sign.Dollar
     else (if is_printable b then sign.Ordinary else sign.Outside))))))))))))
 
--- the trees so far, the last first; the frames around the innermost; the innermost; how many groups were opened; how many nodes were made
+-- the trees so far, the last first; the frames around the innermost; the innermost; how many groups were opened; how
+-- many nodes were made
 pub record State : Type 0 where
   pub stack : List Tree
   pub frames : List Frame
@@ -88,6 +88,10 @@ with_repeat low high s =
 abbrev pub with_group : State → State
 with_group s = record s { frames = s.top ∷ s.frames; top = new_frame (s.opened + 1); opened = s.opened + 1 }
 
+-- what is around the innermost group
+abbrev pub with_frame : Frame → State → State
+with_frame f s = record s { frames = f ∷ s.frames }
+
 -- one more branch
 abbrev pub with_branch : State → State
 with_branch s =
@@ -135,13 +139,12 @@ plain_step s b sign.Outside = Err w.NotAscii
 
 abbrev pub escape_step : State → ℕ → Result State Why
 escape_step s b =
-    if is_special b then Ok (with_leaf (n.Byte b) no_marks true s)
-    else (if is_printable b then Err w.BadEscape else Err w.NotAscii)
+    if is_special b then Ok (with_leaf (n.Byte b) no_marks true s) else Err (reason_at b w.BadEscape)
 
 abbrev pub interval_step : State → ℕ → Counting → Result State Why
 interval_step s b (counting.More i) = Ok (at_mode (mode.Interval i) s)
 interval_step s b (counting.Done low high) = Ok (with_repeat low high s)
-interval_step s b counting.Broken = if is_printable b then Err w.BadInterval else Err w.NotAscii
+interval_step s b counting.Broken = Err (reason_at b w.BadInterval)
 
 abbrev pub bracket_step : State → Listing → Result State Why
 bracket_step s (listing.More k) = Ok (at_mode (mode.Bracket k) s)
@@ -192,7 +195,7 @@ pub record Fair (n : ℕ) (s : State) : Type 0 where
   pub repeats : s.top.repeatable ≡ true → 1 ≤ s.top.pieces
   pub mode : FairMode s.mode s.top.repeatable
 
--- how a fault at this place stands to what the machine answers: want of memory is free
+-- how a fault at this place stands to what the machine answers: being out of memory is free
 abbrev pub Stops : {X : Type 0} → ℕ → EreFault → Result X Why → Type 0
 Stops at (fault.Broken place why) r = (place ≡ at) × (r ≡ Err why)
 Stops at (fault.TooHeavy weight) r = ⊥
@@ -215,7 +218,8 @@ top_of (t ∷ ts) = t
 -- how a fault at the end of the text stands to what the machine answers
 abbrev pub Ends : ℕ → EreFault → Result (List Tree) Why → Type 0
 Ends at (fault.Broken place why) r = (place ≡ at) × (r ≡ Err why)
-Ends at (fault.TooHeavy told) r = IsOkAnd r (λ stack. (512 < weight (top_of stack)) × (told ≡ min (weight (top_of stack)) 1_000_000))
+Ends at (fault.TooHeavy told) r =
+    IsOkAnd r (λ stack. (512 < weight (top_of stack)) × (told ≡ min (weight (top_of stack)) 1_000_000))
 Ends at fault.Memory r = Unit {0}
 
 -- how what is left open stands to what the machine answers at the end of the text

@@ -36,7 +36,8 @@ abbrev mutual
   groups_in none = 0
   groups_in (more t ts) = groups t + groups_in ts
 
--- by what the weight of a repeated part is multiplied: the upper number, or the lower where there is no upper, at least 1
+-- by what the weight of a repeated part is multiplied: the upper number, or the lower where there is no upper, at
+-- least 1
 abbrev pub times : ℕ → Option ℕ → ℕ
 times m None = max m 1
 times m (Some n) = max n 1

@@ -3,7 +3,8 @@ use Rattle.std.specs.Prelude.{ℕ, ◌<◌, ◌≤◌, List, ◌++◌, length, t
 use Rattle.posix_ere.specs.Tree.{Tree}
 use Rattle.posix_ere.specs.Grammar.{Reads}
 
--- a text can be closed: at most eight bytes, and after them at most as many `)` as it has bytes, make it a text with a tree
+-- a text can be closed: at most eight bytes, and after them at most as many `)` as it has bytes, make it a text with a
+-- tree
 pub record CanBeClosed (p : List ℕ) : Type 0 where
   pub bytes : List ℕ
   pub depth : ℕ

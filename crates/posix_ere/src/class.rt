@@ -1,11 +1,11 @@
 //! The character classes of brackets.
-ghost use Rattle.std.specs.Prelude.{◌≡◌, ◌==◌, ◌<◌, ◌+◌, length, IsSome};
+ghost use Rattle.std.specs.Prelude.{◌≡◌, ◌==◌, length};
 ghost use Rattle.posix_ere.specs.Bracket.{is_member, name_of};
-ghost use Rattle.posix_ere.specs.BracketMachine.{first_class, next_class};
+ghost use Rattle.posix_ere.specs.BracketMachine.{goes_on, next_class};
 
-/// A character class of the C locale (IEEE 1003.1, Base Definitions, 7.3.1).
+// A character class of the C locale (IEEE 1003.1, Base Definitions, 7.3.1).
 #[derive(Clone, Copy, Debug, PartialEq, Eq, Drop)]
-pub enum Class {
+pub(crate) enum Class {
     Alnum,
     Alpha,
     Blank,
@@ -20,8 +20,24 @@ pub enum Class {
     Xdigit,
 }
 
+// In the order of their names.
+const CLASSES: [Class; 12] = [
+    Class::Alnum,
+    Class::Alpha,
+    Class::Blank,
+    Class::Cntrl,
+    Class::Digit,
+    Class::Graph,
+    Class::Lower,
+    Class::Print,
+    Class::Punct,
+    Class::Space,
+    Class::Upper,
+    Class::Xdigit,
+];
+
 impl Class {
-    /// Whether a byte is a member.
+    // Whether a byte is a member.
     pub(crate) fn has(self, byte: u8) -> bool
         ensures { result ≡ is_member self byte }
     {
@@ -42,27 +58,7 @@ impl Class {
         }
     }
 
-    /// The first class whose name begins with this letter.
-    pub(crate) fn first(letter: u8) -> Option<Class>
-        ensures { result ≡ first_class letter }
-    {
-        match letter {
-            b'a' => Some(Class::Alnum),
-            b'b' => Some(Class::Blank),
-            b'c' => Some(Class::Cntrl),
-            b'd' => Some(Class::Digit),
-            b'g' => Some(Class::Graph),
-            b'l' => Some(Class::Lower),
-            b'p' => Some(Class::Print),
-            b's' => Some(Class::Space),
-            b'u' => Some(Class::Upper),
-            b'x' => Some(Class::Xdigit),
-            _ => None,
-        }
-    }
-
-    /// The name of the class.
-    pub(crate) fn name(self) -> &'static [u8]
+    fn name(self) -> &'static [u8]
         ensures { result.now ≡ name_of self }
     {
         match self {
@@ -81,26 +77,25 @@ impl Class {
         }
     }
 
-    /// The first class whose name begins with the first `read` letters of this one's and then this letter.
-    pub(crate) fn next(self, read: u8, letter: u8) -> Option<Class>
-        ensures value { result ≡ next_class self read letter }
-        ensures short { IsSome result → read < 6 }
+    // Whether the name begins with the first `read` letters of the other's and then this letter.
+    fn goes_on(self, other: Class, read: usize, letter: u8) -> bool
+        ensures { result ≡ goes_on other read letter self }
     {
         let name = self.name();
-        let at = read as usize;
-        if at < name.len() && name[at] == letter {
-            return Some(self);
-        }
-        if self == Class::Alnum && read == 2 && letter == b'p' {
-            return Some(Class::Alpha);
-        }
-        if self == Class::Print && read == 1 && letter == b'u' {
-            return Some(Class::Punct);
-        }
-        None
+        read < name.len() && name[read] == letter && name.get(..read) == other.name().get(..read)
     }
 
-    /// Whether the name has this many letters.
+    // The first class whose name begins with the first `read` letters of this one's and then this letter.
+    pub(crate) fn next(self, read: u8, letter: u8) -> Option<Class>
+        ensures { result ≡ next_class self read letter }
+    {
+        CLASSES
+            .iter()
+            .copied()
+            .find(|class| class.goes_on(self, read as usize, letter))
+    }
+
+    // Whether the name has this many letters.
     pub(crate) fn is_whole(self, read: u8) -> bool
         ensures { result ≡ (read == length (name_of self)) }
     {

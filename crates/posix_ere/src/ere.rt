@@ -6,7 +6,7 @@ ghost use Rattle.posix_ere.specs.Parts.{count_of, part, parts_of, groups as grou
 ghost use Rattle.posix_ere.specs.Nodes.{node_of, listed_of, IsSet, tree_at, whole};
 ghost use Rattle.posix_ere.specs.Grammar.{Reads};
 ghost use Rattle.posix_ere.specs.Cells.{trees_of, IsExpressionOf};
-ghost use Rattle.posix_ere.specs.Answers.{HasOneTree, HasOneReason, HasOneFault, IsFaultOf, IsFaultAt};
+ghost use Rattle.posix_ere.specs.Answers.{HasOneTree, HasOneReason, PrefixesClose, HasOneFault, IsFaultOf, IsFaultAt};
 
 use crate::cell::Cells;
 use crate::node::Node;
@@ -43,12 +43,18 @@ pub fn has_one_tree()
     ensures { HasOneTree }
 {}
 
-/// A text breaks for one reason: no two rows fit one place.
+/// No two rows of the reasons fit one place, whether the text is broken there or not.
 pub fn has_one_reason()
     ensures { HasOneReason }
 {}
 
-/// A text has at most one fault, with one place and one reason, or with one weight; want of memory is no fault of a text.
+/// A prefix of a text with a tree can be closed, so the place in `Broken` is the length of the longest prefix that some
+/// text with a tree has.
+pub fn prefixes_close()
+    ensures { PrefixesClose }
+{}
+
+/// A text has at most one fault: one place and one reason, or one weight. Being out of memory is no fault of a text.
 pub fn has_one_fault()
     ensures { HasOneFault }
 {}
@@ -66,10 +72,8 @@ impl<A: Allocator + Copy> Ere<A> {
         ensures exact { (t : Tree) → Reads text.now t → MatchResult result (λ ere. whole ere ≡ t) (λ e. IsFaultAt t e) }
     {
         let mut reader = Reader::new(alloc);
-        for (at, byte) in text.iter().enumerate() {
-            if let Err(fault) = reader.step(at as u8, *byte) {
-                return Err(fault);
-            }
+        for at in 0..text.len() {
+            reader.read(text, at)?;
         }
         reader.finish(text.len() as u8)
     }
@@ -77,7 +81,7 @@ impl<A: Allocator + Copy> Ere<A> {
 
 #[tactic(auto, using(crate::proofs::Told::length_trees))]
 impl<A: Allocator> Ere<A> {
-    /// The expression of these cells.
+    // The expression of these cells.
     pub(crate) fn new(cells: Cells<A>, groups: u32) -> Ere<A>
         requires { IsExpressionOf cells groups }
         ensures { result ≡ trees_of cells }

@@ -2,7 +2,7 @@
 ghost use Rattle.std.specs.Prelude.{◌≡◌, ◌≤◌};
 ghost use Rattle.posix_ere.specs.IntervalMachine.{count_step, start_step, low_step, comma_step, high_step, may_reach};
 
-/// What was read of an interval after its `{`. Counts have their value and how many digits were read.
+// What was read of an interval after its `{`. Counts have their value and how many digits were read.
 #[derive(Clone, Copy, Debug, PartialEq, Eq, Drop)]
 pub(crate) enum Interval {
     Start,
@@ -11,7 +11,7 @@ pub(crate) enum Interval {
     High(u8, u8, u8),
 }
 
-/// An interval after one more byte.
+// An interval after one more byte.
 #[derive(Clone, Copy, Debug, PartialEq, Eq, Drop)]
 pub(crate) enum Counting {
     More(Interval),
@@ -19,7 +19,7 @@ pub(crate) enum Counting {
     Broken,
 }
 
-/// Whether some count from `low` to 255 begins with these digits of this value.
+// Whether some count from `low` to 255 begins with these digits of this value.
 fn may_reach(low: u8, value: u32, digits: u8) -> bool
     requires { value ≤ 9999 }
     ensures { result ≡ may_reach low value digits }
@@ -31,7 +31,7 @@ fn may_reach(low: u8, value: u32, digits: u8) -> bool
 }
 
 impl Interval {
-    /// The interval after one more byte.
+    // The interval after one more byte.
     pub(crate) fn step(self, byte: u8) -> Counting
         ensures { result ≡ count_step self byte }
     {

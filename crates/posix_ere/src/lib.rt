@@ -10,10 +10,8 @@ mod interval;
 mod node;
 mod reader;
 mod sign;
-#[cfg(test)]
-mod tests;
 mod why;
 
-pub use ere::{Ere, has_one_fault, has_one_reason, has_one_tree};
+pub use ere::{Ere, has_one_fault, has_one_reason, has_one_tree, prefixes_close};
 pub use node::Node;
 pub use why::{EreFault, Why};

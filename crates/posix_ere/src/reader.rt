@@ -1,8 +1,9 @@
 //! Reading an expression a byte at a time.
-ghost use Rattle.std.specs.Prelude.{◌≡◌, ◌+◌, ◌-◌, ◌<◌, ◌≤◌, ◌^◌, [], ◌∷◌, length, true, false, Ok, Err, Some, None, IfOk};
+ghost use Rattle.std.specs.Prelude.{◌≡◌, ◌+◌, ◌<◌, ◌≤◌, ◌^◌, length, slice_index_or, true, false, Ok, IfOk};
 ghost use Rattle.std.specs.Result.{OnOk, IfErr, IsOkAnd};
-ghost use Rattle.posix_ere.specs.Cells.{stack_of, trees_of, FitsNode};
+ghost use Rattle.posix_ere.specs.Cells.{stack_of, FitsNode};
 ghost use Rattle.posix_ere.specs.Machine.{
+  State,
   state_of,
   start,
   step,
@@ -18,11 +19,10 @@ ghost use Rattle.posix_ere.specs.Machine.{
   plain_step,
   escape_step,
   interval_step,
-  bracket_step,
   at_mode,
   no_marks,
-  new_frame,
   with_end,
+  with_frame,
   sign_of,
   ended,
   top_of,
@@ -32,27 +32,26 @@ ghost use Rattle.posix_ere.specs.Machine.{
 ghost use Rattle.posix_ere.specs.Parts.{groups as groups_of, weight as weight_of};
 ghost use Rattle.posix_ere.specs.Nodes.{whole};
 ghost use Rattle.posix_ere.specs.IntervalMachine.{count_step};
-ghost use Rattle.posix_ere.specs.BracketMachine.{list_step};
 ghost use Rattle.posix_ere.specs.declared.frame.Mode.TheVariants as mode;
 ghost use Rattle.posix_ere.specs.declared.interval.Interval.TheVariants as interval;
 
-use crate::bracket::{Bracket, Listing, Marks, is_printable};
+use crate::bracket::{Bracket, Marks, Progress};
 use crate::cell::Cells;
 use crate::ere::Ere;
 use crate::frame::{Frame, Mode};
 use crate::interval::{Counting, Interval};
 use crate::node::Node;
 use crate::sign::Sign;
-use crate::why::{EreFault, Why};
-use std::alloc::{AllocError, AllocFailed, Allocator};
+use crate::why::{EreFault, Why, is_printable};
+use std::alloc::{AllocError, Allocator};
 
-/// The greatest weight of an expression.
+// The greatest weight of an expression.
 const MAX_WEIGHT: u32 = 512;
 
-/// No byte listed.
+// No byte listed.
 const NO_MARKS: Marks = [false; 128];
 
-/// What was read of an expression.
+// What was read of an expression.
 #[derive(Drop)]
 pub(crate) struct Reader<A: Allocator> {
     cells: Cells<A>,
@@ -60,19 +59,6 @@ pub(crate) struct Reader<A: Allocator> {
     top: Frame,
     opened: u32,
     mode: Mode,
-}
-
-impl Frame {
-    fn new(number: u32) -> Frame
-        ensures { result ≡ new_frame number }
-    {
-        Frame {
-            number,
-            branches: 0,
-            pieces: 0,
-            repeatable: false,
-        }
-    }
 }
 
 impl<A: Allocator + Copy> Reader<A> {
@@ -90,7 +76,7 @@ impl<A: Allocator + Copy> Reader<A> {
 }
 
 impl<A: Allocator> Reader<A> {
-    /// One more piece, a leaf.
+    // One more piece, a leaf.
     fn leaf(&mut self, node: Node, marks: Marks, repeatable: bool) -> Result<(), AllocError>
         requires leaf { FitsNode node 0 }
         requires room { length self.old.cells < 2 ^ 32 }
@@ -104,7 +90,27 @@ impl<A: Allocator> Reader<A> {
         Ok(())
     }
 
-    /// The last piece repeated.
+    // One more piece that may be repeated.
+    fn atom(&mut self, node: Node) -> Result<(), AllocError>
+        requires leaf { FitsNode node 0 }
+        requires room { length self.old.cells < 2 ^ 32 }
+        requires pieces { self.old.top.pieces + 1 < 2 ^ 32 }
+        ensures { OnOk result (state_of self.new ≡ with_leaf node no_marks true (state_of self.old)) }
+    {
+        self.leaf(node, NO_MARKS, true)
+    }
+
+    // One more piece that may not.
+    fn anchor(&mut self, node: Node) -> Result<(), AllocError>
+        requires leaf { FitsNode node 0 }
+        requires room { length self.old.cells < 2 ^ 32 }
+        requires pieces { self.old.top.pieces + 1 < 2 ^ 32 }
+        ensures { OnOk result (state_of self.new ≡ with_leaf node no_marks false (state_of self.old)) }
+    {
+        self.leaf(node, NO_MARKS, false)
+    }
+
+    // The last piece repeated.
     fn repeat(&mut self, low: u32, high: Option<u32>) -> Result<(), AllocError>
         requires room { length self.old.cells < 2 ^ 32 }
         requires some { 1 ≤ length (stack_of self.old.cells) }
@@ -115,7 +121,7 @@ impl<A: Allocator> Reader<A> {
         Ok(())
     }
 
-    /// One more branch.
+    // One more branch.
     fn branch(&mut self) -> Result<(), AllocError>
         requires room { length self.old.cells < 2 ^ 32 }
         requires pieces { self.old.top.pieces ≤ length (stack_of self.old.cells) }
@@ -129,7 +135,7 @@ impl<A: Allocator> Reader<A> {
         Ok(())
     }
 
-    /// One more group.
+    // One more group.
     fn open(&mut self) -> Result<(), AllocError>
         requires { self.old.opened + 1 < 2 ^ 32 }
         ensures { OnOk result (state_of self.new ≡ with_group (state_of self.old)) }
@@ -140,7 +146,7 @@ impl<A: Allocator> Reader<A> {
         Ok(())
     }
 
-    /// The end of the innermost alternatives.
+    // The end of the innermost alternatives.
     fn end(&mut self) -> Result<(), AllocError>
         requires room { length self.old.cells + 2 < 2 ^ 32 }
         requires enough { self.old.top.pieces + self.old.top.branches ≤ length (stack_of self.old.cells) }
@@ -152,18 +158,24 @@ impl<A: Allocator> Reader<A> {
         Ok(())
     }
 
-    /// The end of a group.
+    // What is around the innermost group.
+    fn leave(&mut self, at: u8) -> Result<Frame, EreFault>
+        ensures ok { IfOk result (λ outer. state_of self.old ≡ with_frame outer (state_of self.new)) }
+        ensures stops { IfErr result (λ e. Stops at e (closed (state_of self.old) (state_of self.old).frames)) }
+    {
+        self.frames.pop().ok_or(EreFault::Broken {
+            at,
+            why: Why::StrayClose,
+        })
+    }
+
+    // The end of a group.
     fn close(&mut self, at: u8) -> Result<(), EreFault>
         requires { Fair at (state_of self.old) }
         ensures ok { OnOk result (closed (state_of self.old) (state_of self.old).frames ≡ Ok (state_of self.new)) }
         ensures stops { IfErr result (λ e. Stops at e (closed (state_of self.old) (state_of self.old).frames)) }
     {
-        let Some(outer) = self.frames.pop() else {
-            return Err(EreFault::Broken {
-                at,
-                why: Why::StrayClose,
-            });
-        };
+        let outer = self.leave(at)?;
         self.end()?;
         self.cells.push(Node::Group(self.top.number), NO_MARKS, 1)?;
         self.top = Frame {
@@ -174,23 +186,46 @@ impl<A: Allocator> Reader<A> {
         Ok(())
     }
 
-    /// A repeat, where something may be repeated.
+    // That the last piece may be repeated.
+    fn may_repeat(&self, at: u8) -> Result<(), EreFault>
+        ensures ok { OnOk result (self.now.top.repeatable ≡ true) }
+        ensures stops { (next : State) → IfErr result (λ e. Stops at e (if_repeatable (state_of self.now) next)) }
+    {
+        if self.top.repeatable {
+            return Ok(());
+        }
+        Err(EreFault::Broken {
+            at,
+            why: Why::NothingToRepeat,
+        })
+    }
+
+    // A repeat, where something may be repeated.
     fn repeat_last(&mut self, at: u8, low: u32, high: Option<u32>) -> Result<(), EreFault>
         requires { Fair at (state_of self.old) }
-        ensures ok { OnOk result (if_repeatable (state_of self.old) (with_repeat low high (state_of self.old)) ≡ Ok (state_of self.new)) }
-        ensures stops { IfErr result (λ e. Stops at e (if_repeatable (state_of self.old) (with_repeat low high (state_of self.old)))) }
+        ensures ok { OnOk result
+            (if_repeatable (state_of self.old) (with_repeat low high (state_of self.old)) ≡ Ok (state_of self.new)) }
+        ensures stops { IfErr result
+            (λ e. Stops at e (if_repeatable (state_of self.old) (with_repeat low high (state_of self.old)))) }
     {
-        if !self.top.repeatable {
-            return Err(EreFault::Broken {
-                at,
-                why: Why::NothingToRepeat,
-            });
-        }
+        self.may_repeat(at)?;
         self.repeat(low, high)?;
         Ok(())
     }
 
-    /// A byte outside brackets, intervals and escapes.
+    // The `{` of an interval, where something may be repeated.
+    fn brace(&mut self, at: u8) -> Result<(), EreFault>
+        ensures ok { OnOk result (if_repeatable (state_of self.old)
+            (at_mode (mode.Interval interval.Start) (state_of self.old)) ≡ Ok (state_of self.new)) }
+        ensures stops { IfErr result (λ e. Stops at e (if_repeatable (state_of self.old)
+            (at_mode (mode.Interval interval.Start) (state_of self.old)))) }
+    {
+        self.may_repeat(at)?;
+        self.mode = Mode::Interval(Interval::Start);
+        Ok(())
+    }
+
+    // A byte outside brackets, intervals and escapes.
     fn plain(&mut self, at: u8, byte: u8) -> Result<(), EreFault>
         requires { Fair at (state_of self.old) }
         ensures ok { OnOk result (plain_step (state_of self.old) byte (sign_of byte) ≡ Ok (state_of self.new)) }
@@ -206,10 +241,10 @@ impl<A: Allocator> Reader<A> {
             Sign::Brace => self.brace(at)?,
             Sign::Bracket => self.mode = Mode::Bracket(Bracket::new()),
             Sign::Escape => self.mode = Mode::Escape,
-            Sign::Dot => self.leaf(Node::Any, NO_MARKS, true)?,
-            Sign::Circumflex => self.leaf(Node::Start, NO_MARKS, false)?,
-            Sign::Dollar => self.leaf(Node::End, NO_MARKS, false)?,
-            Sign::Ordinary => self.leaf(Node::Byte(byte), NO_MARKS, true)?,
+            Sign::Dot => self.atom(Node::Any)?,
+            Sign::Circumflex => self.anchor(Node::Start)?,
+            Sign::Dollar => self.anchor(Node::End)?,
+            Sign::Ordinary => self.atom(Node::Byte(byte))?,
             Sign::Outside => return Err(EreFault::Broken {
                 at,
                 why: Why::NotAscii,
@@ -218,93 +253,80 @@ impl<A: Allocator> Reader<A> {
         Ok(())
     }
 
-    /// The `{` of an interval, where something may be repeated.
-    fn brace(&mut self, at: u8) -> Result<(), EreFault>
-        ensures ok { OnOk result (if_repeatable (state_of self.old) (at_mode (mode.Interval interval.Start) (state_of self.old)) ≡ Ok (state_of self.new)) }
-        ensures stops { IfErr result (λ e. Stops at e (if_repeatable (state_of self.old) (at_mode (mode.Interval interval.Start) (state_of self.old)))) }
-    {
-        if !self.top.repeatable {
-            return Err(EreFault::Broken {
-                at,
-                why: Why::NothingToRepeat,
-            });
-        }
-        self.mode = Mode::Interval(Interval::Start);
-        Ok(())
-    }
-
-    /// A byte after a backslash.
+    // A byte after a backslash.
     fn escaped(&mut self, at: u8, byte: u8) -> Result<(), EreFault>
         requires { Fair at (state_of self.old) }
         ensures ok { OnOk result (escape_step (state_of self.old) byte ≡ Ok (state_of self.new)) }
         ensures stops { IfErr result (λ e. Stops at e (escape_step (state_of self.old) byte)) }
     {
         if is_printable(byte) && !byte.is_ascii_alphanumeric() {
-            self.leaf(Node::Byte(byte), NO_MARKS, true)?;
+            self.atom(Node::Byte(byte))?;
             return Ok(());
         }
-        let why = if is_printable(byte) {
-            Why::BadEscape
-        } else {
-            Why::NotAscii
-        };
-        Err(EreFault::Broken { at, why })
+        Err(EreFault::Broken {
+            at,
+            why: Why::BadEscape.at(byte),
+        })
     }
 
-    /// A byte of an interval.
+    // A byte of an interval.
     fn counted(&mut self, at: u8, byte: u8, interval: Interval) -> Result<(), EreFault>
         requires fair { Fair at (state_of self.old) }
         requires repeatable { self.old.top.repeatable ≡ true }
-        ensures ok { OnOk result (interval_step (state_of self.old) byte (count_step interval byte) ≡ Ok (state_of self.new)) }
-        ensures stops { IfErr result (λ e. Stops at e (interval_step (state_of self.old) byte (count_step interval byte))) }
+        ensures ok { OnOk result
+            (interval_step (state_of self.old) byte (count_step interval byte) ≡ Ok (state_of self.new)) }
+        ensures stops { IfErr result
+            (λ e. Stops at e (interval_step (state_of self.old) byte (count_step interval byte))) }
     {
         match interval.step(byte) {
             Counting::More(interval) => self.mode = Mode::Interval(interval),
-            Counting::Done(low, None) => self.repeat(u32::from(low), None)?,
-            Counting::Done(low, Some(high)) => self.repeat(u32::from(low), Some(u32::from(high)))?,
-            Counting::Broken => {
-                let why = if is_printable(byte) {
-                    Why::BadInterval
-                } else {
-                    Why::NotAscii
-                };
-                return Err(EreFault::Broken { at, why });
-            }
+            Counting::Done(low, high) => self.repeat(u32::from(low), high.map(u32::from))?,
+            Counting::Broken => return Err(EreFault::Broken {
+                at,
+                why: Why::BadInterval.at(byte),
+            }),
         }
         Ok(())
     }
 
-    /// A byte of a bracket.
-    fn bracketed(&mut self, at: u8, byte: u8, bracket: Bracket) -> Result<(), EreFault>
-        requires { Fair at (state_of self.old) }
-        ensures ok { OnOk result (bracket_step (state_of self.old) (list_step bracket byte) ≡ Ok (state_of self.new)) }
-        ensures stops { IfErr result (λ e. Stops at e (bracket_step (state_of self.old) (list_step bracket byte))) }
-    {
-        match bracket.step(byte) {
-            Listing::More(bracket) => self.mode = Mode::Bracket(bracket),
-            Listing::Done(negated, marks) => self.leaf(Node::Set(negated), marks, true)?,
-            Listing::Broken(why) => return Err(EreFault::Broken { at, why }),
-        }
-        Ok(())
-    }
-
-    /// One more byte, the one at this place.
+    // The byte at this place.
     #[tactic(auto, unfolding(crate::specs::Machine::step))]
-    pub(crate) fn step(&mut self, at: u8, byte: u8) -> Result<(), EreFault>
+    fn step(&mut self, at: u8, byte: u8) -> Result<(), EreFault>
         requires { Fair at (state_of self.old) }
         ensures ok { OnOk result (step (state_of self.old) byte ≡ Ok (state_of self.new)) }
         ensures stops { IfErr result (λ e. Stops at e (step (state_of self.old) byte)) }
     {
-        match self.mode {
+        match &mut self.mode {
             Mode::Plain => self.plain(at, byte)?,
             Mode::Escape => self.escaped(at, byte)?,
-            Mode::Interval(interval) => self.counted(at, byte, interval)?,
-            Mode::Bracket(bracket) => self.bracketed(at, byte, bracket)?,
+            Mode::Interval(interval) => {
+                let interval = *interval;
+                self.counted(at, byte, interval)?
+            }
+            Mode::Bracket(bracket) => match bracket.step(byte) {
+                Ok(Progress::Open) => {}
+                Ok(Progress::Closed) => {
+                    let Bracket { negated, marks, .. } = *bracket;
+                    self.leaf(Node::Set(negated), marks, true)?
+                }
+                Err(why) => return Err(EreFault::Broken { at, why }),
+            },
         }
         Ok(())
     }
 
-    /// The expression, where the text ends at this place.
+    // The byte of a text at this place.
+    pub(crate) fn read(&mut self, text: &[u8], at: usize) -> Result<(), EreFault>
+        requires within { at < length text.now }
+        requires short { length text.now ≤ 255 }
+        requires fair { Fair at (state_of self.old) }
+        ensures ok { OnOk result (step (state_of self.old) (slice_index_or text.now at 0) ≡ Ok (state_of self.new)) }
+        ensures stops { IfErr result (λ e. Stops at e (step (state_of self.old) (slice_index_or text.now at 0))) }
+    {
+        self.step(at as u8, text[at])
+    }
+
+    // The expression, where the text ends at this place.
     pub(crate) fn finish(self, at: u8) -> Result<Ere<A>, EreFault>
         requires fair { Fair at (state_of self) }
         requires numbered { IfOk (finish (state_of self)) (λ stack. self.opened ≡ groups_of (top_of stack)) }
@@ -318,7 +340,7 @@ impl<A: Allocator> Reader<A> {
         }
     }
 
-    /// Why the text may not end here.
+    // Why the text may not end here.
     #[tactic(auto, unfolding(crate::specs::Machine::finish))]
     fn open_part(&self) -> Option<Why>
         ensures { LeavesOpen result (state_of self.now) }
@@ -335,7 +357,7 @@ impl<A: Allocator> Reader<A> {
         }
     }
 
-    /// The expression, where nothing is open.
+    // The expression, where nothing is open.
     fn whole(mut self, at: u8) -> Result<Ere<A>, EreFault>
         requires fair { Fair at (state_of self) }
         requires numbered { self.opened ≡ groups_of (top_of (ended (state_of self))) }

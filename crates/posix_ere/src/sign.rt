@@ -2,9 +2,9 @@
 ghost use Rattle.std.specs.Prelude.{◌≡◌};
 ghost use Rattle.posix_ere.specs.Machine.{sign_of};
 
-use crate::bracket::is_printable;
+use crate::why::is_printable;
 
-/// What a byte outside brackets, intervals and escapes is.
+// What a byte outside brackets, intervals and escapes is.
 #[derive(Clone, Copy, Debug, PartialEq, Eq, Drop)]
 pub(crate) enum Sign {
     Open,

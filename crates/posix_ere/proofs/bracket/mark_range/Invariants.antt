@@ -1,6 +1,6 @@
 use Rattle.posix_ere.specs.Bracket.Item.{range}
 use Rattle.posix_ere.proofs.Marks.{Marking}
-use Rattle.posix_ere.proofs.bracket.with_range.Given as goal
+use Rattle.posix_ere.proofs.bracket.mark_range.Given as goal
 
 abbrev pub invariant-loop-byte : goal.invariant-loop-byte
 invariant-loop-byte l = Marking (range l.first l.last) l.byte l.fn.marks l.marks

@@ -1,6 +1,6 @@
 use Rattle.posix_ere.specs.Bracket.Item.{members}
 use Rattle.posix_ere.proofs.Marks.{Marking}
-use Rattle.posix_ere.proofs.bracket.with_class.Given as goal
+use Rattle.posix_ere.proofs.bracket.mark_class.Given as goal
 
 abbrev pub invariant-loop-byte : goal.invariant-loop-byte
 invariant-loop-byte l = Marking (members l.class) l.byte l.fn.marks l.marks
