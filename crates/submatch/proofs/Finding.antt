@@ -3,8 +3,8 @@ use Rattle.std.proofs.Common.{◌≡◌, ℕ, ◌+◌, ◌<◌, ◌≤◌, ◌�
 use Rattle.posix_ere.specs.Tree.{Tree}
 use Rattle.submatch.specs.Parses.{Parses, no_more, next, IsParse}
 use Rattle.submatch.specs.Greater.{IsAtLeast, IsGreatestParse}
-use Rattle.submatch.specs.Groups.{MatchSpans, groups_of, with_groups}
-use Rattle.submatch.specs.Best.{IsMatch, HasNoMatch, IsBestMatch, IsBestSpan, AreBestGroups, IsGreatestFrom, IsBestOf, TellsBest}
+use Rattle.submatch.specs.Groups.{MatchSpans, groups_of, nine_spans, with_groups}
+use Rattle.submatch.specs.Best.{IsMatch, HasNoMatch, IsBestMatch, AreBestSpans, IsBestSpan, AreBestGroups, IsGreatestFrom, IsBestOf, TellsBest}
 use Rattle.submatch.specs.Places.{AreEnds}
 use Rattle.submatch.specs.Ends.{Reaches, IsLongest, TellsLongest}
 use Rattle.submatch.proofs.Order.{at_least_next}
@@ -69,6 +69,16 @@ module _ (fold : Bool) (w : List ℕ) (t : Tree) where
   pub groups_told : (found : Option MatchSpans) → TellsBest fold w t found → IfSome found (λ spans. AreBestGroups fold w t spans.groups)
   groups_told None never = tt
   groups_told (Some spans) b = (b.start, b.greatest.to, b.greatest.choice, b.greatest.inside, best_match spans b, b.greatest.groups)
+
+  pub one_told : (found : Option MatchSpans) → TellsBest fold w t found → IfSome found (λ spans. AreBestSpans fold w t spans)
+  one_told None never = tt
+  one_told (Some spans) b = record {
+    choice = b.greatest.choice;
+    inside = b.greatest.inside;
+    best = subst (λ s. IsBestMatch fold w t s.from s.to b.greatest.choice b.greatest.inside) (sym b.greatest.whole) (best_match spans b);
+    groups = subst (λ s. spans.groups ≡ nine_spans (groups_of t s.from s.to b.greatest.choice b.greatest.inside))
+        (sym b.greatest.whole) b.greatest.groups;
+  }
 
   pub best_of : (i : ℕ) (spans : MatchSpans) → i ≤ length w → ((k : ℕ) → k < i → HasNoMatch fold w t k) → IsGreatestFrom fold w t i spans → IsBestOf fold w t spans
   best_of i spans within least g = record { start = i; within = within; least = least; greatest = g }

@@ -30,6 +30,13 @@ abbrev pub AreBestGroups : Bool → List ℕ → Tree → List (Option Span) →
 AreBestGroups fold w t groups =
     (i j c : ℕ) × (a : Parses) × IsBestMatch fold w t i j c a × (groups ≡ nine_spans (groups_of t i j c a))
 
+-- the spans are those of one best match: its own span, and the spans of groups 1 to 9 that it took
+pub record AreBestSpans (fold : Bool) (w : List ℕ) (t : Tree) (spans : MatchSpans) : Type 0 where
+  pub choice : ℕ
+  pub inside : Parses
+  pub best : IsBestMatch fold w t spans.whole.from spans.whole.to choice inside
+  pub groups : spans.groups ≡ nine_spans (groups_of t spans.whole.from spans.whole.to choice inside)
+
 -- the spans are those of the greatest parse of the whole from i
 pub record IsGreatestFrom (fold : Bool) (w : List ℕ) (t : Tree) (i : ℕ) (spans : MatchSpans) : Type 0 where
   pub to : ℕ

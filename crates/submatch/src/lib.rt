@@ -10,6 +10,3 @@ mod spans;
 
 pub use matcher::Matcher;
 pub use spans::{Span, Spans};
-
-#[cfg(test)]
-mod tests;

@@ -1,7 +1,7 @@
 //! The matcher: the best match of an expression in a text.
 ghost use Rattle.std.specs.Prelude.{◌≡◌, ℕ, ◌+◌, ◌≤◌, ◌↔◌, length, IfOk, IfSome, IsNone};
 ghost use Rattle.posix_ere.specs.Nodes.{whole};
-ghost use Rattle.submatch.specs.Best.{HasNoMatch, IsBestSpan, AreBestGroups, TellsGreatest, TellsBest};
+ghost use Rattle.submatch.specs.Best.{HasNoMatch, AreBestSpans, IsBestSpan, AreBestGroups, TellsGreatest, TellsBest};
 
 use super::search::Search;
 use super::spans::{Groups, Span, Spans};
@@ -54,7 +54,9 @@ impl<A: Allocator + Copy> Matcher<'_, A> {
         // There is none exactly where no start has a parse.
         ensures none { IfOk result (λ found. IsNone found ↔ ((i : ℕ) → i ≤ length text.now →
             HasNoMatch fold text.now self.old i)) }
-        // What is told is the span of the best match, and those of its groups.
+        // What is told are the spans of one best match.
+        ensures one { IfOk result (λ found. IfSome found (λ spans. AreBestSpans fold text.now self.old spans)) }
+        // So it is the span of the best match, and those of its groups.
         ensures whole { IfOk result (λ found. IfSome found
             (λ spans. IsBestSpan fold text.now self.old spans.whole)) }
         ensures groups { IfOk result (λ found. IfSome found
