@@ -1,10 +1,12 @@
-use Rattle.std.proofs.Common.{◌≡◌, ◌≢◌, ℕ, ◌<◌, ◌≤◌, ◌⊎◌, inl, inr, List, [], length, Result, Ok, Err, IfOk, refl, subst, arith}
+use Rattle.std.proofs.Common.{◌≡◌, ◌≢◌, ℕ, ◌<◌, ◌≤◌, ◌⊎◌, inl, inr, List, [], length, Result, Ok, Err, IfOk, refl, ap, subst, arith}
 use Rattle.std.specs.Result.{IfErr}
 use Rattle.subst_expr.specs.Regexp.{IsWellFormed, IsRegexpFault}
 use Rattle.subst_expr.specs.Output.{IsOutput, IsUnmatched, IsApplied, IsApplyFault, IsAnswer}
-use Rattle.subst_expr.specs.Laws.{WellFormedHasNoFault, OneOutput, UnmatchedHasNoOutput}
+use Rattle.subst_expr.specs.Laws.{OneFault, WellFormedHasNoFault, OneOutput, UnmatchedHasNoOutput}
 use Rattle.subst_expr.specs.declared.regexp.RegexpFault.{RegexpFault}
 use Rattle.subst_expr.specs.declared.regexp.RegexpFault.TheVariants.{Memory}
+use Rattle.subst_expr.specs.declared.regexp.RegexpFault.TheVariants as RegexpFault
+use Rattle.subst_expr.specs.declared.rule.ApplyFault.TheVariants as ApplyFault
 use Rattle.subst_expr.specs.declared.rule.Applied.{Applied}
 use Rattle.subst_expr.specs.declared.rule.Applied.TheVariants.{Output, NoMatch}
 use Rattle.subst_expr.specs.declared.rule.ApplyFault.{ApplyFault}
@@ -60,3 +62,25 @@ too_long_comes one none fine text aus before after (Ok NoMatch) ok err bytes is 
 too_long_comes one none fine text aus before after (Err (ApplyFault.IllFormed fault)) ok err bytes is many = absurd (no_refusal fine text fault (formed text aus bytes is) err.0 err.1)
 too_long_comes one none fine text aus before after (Err ApplyFault.TooLong) ok err bytes is many = inl refl
 too_long_comes one none fine text aus before after (Err ApplyFault.Memory) ok err bytes is many = inr refl
+
+-- an ill-formed text is refused with its fault
+pub refusal_comes : OneFault → WellFormedHasNoFault → (text aus before after : List ℕ) (result : Result Applied ApplyFault) → IfOk result (λ applied. IsApplied text aus before after applied) → IfErr result (λ fault. IsApplyFault text aus fault) → (fault : RegexpFault) → fault ≢ Memory → IsRegexpFault text fault → IsAnswer result (Err (ApplyFault.IllFormed fault))
+refusal_comes one fine text aus before after (Ok Output) (bytes, is, some, few, grown) err fault other told = absurd (no_refusal fine text fault (formed text aus bytes is) other told)
+refusal_comes one fine text aus before after (Ok NoMatch) ok err fault other told = absurd (no_refusal fine text fault (either_formed text aus ok.0) other told)
+refusal_comes one fine text aus before after (Err (ApplyFault.IllFormed found)) ok err fault other told = inl (ap (λ f. Err (ApplyFault.IllFormed f)) (one text found fault err.0 other err.1 told))
+refusal_comes one fine text aus before after (Err ApplyFault.TooLong) ok (others, so, many) fault other told = absurd (no_refusal fine text fault (formed text aus others so) other told)
+refusal_comes one fine text aus before after (Err ApplyFault.Memory) ok err fault other told = inr refl
+
+memory_or : (fault : RegexpFault) → (fault ≡ Memory) ⊎ (fault ≢ Memory)
+memory_or (RegexpFault.Split fault) = inr (λ e. cc)
+memory_or (RegexpFault.Ere fault) = inr (λ e. cc)
+memory_or (RegexpFault.NoGroup at) = inr (λ e. cc)
+memory_or RegexpFault.Memory = inl refl
+
+-- .. by the check too
+pub check_refuses : OneFault → WellFormedHasNoFault → {A : Type 0} (text : List ℕ) (result : Result A RegexpFault) → IfOk result (λ _. IsWellFormed text) → IfErr result (λ fault. IsRegexpFault text fault) → (fault : RegexpFault) → fault ≢ Memory → IsRegexpFault text fault → (result ≡ Err fault) ⊎ (result ≡ Err Memory)
+check_refuses one fine text (Ok a) ok err fault other told = absurd (no_refusal fine text fault ok other told)
+check_refuses one fine text (Err found) ok err fault other told = elim (memory_or found) [
+  | inl none ↦ inr (ap (λ f. Err f) none)
+  | inr some ↦ inl (ap (λ f. Err f) (one text found fault some other err told))
+]

@@ -1,9 +1,15 @@
-use Rattle.std.proofs.Common.{◌≡◌, ◌≢◌, ◌⊎◌, inl, inr, ℕ, not, Bool, true, false, List, [], ◌∷◌, ◌++◌, position, Option, Some, None, Result, Err, MatchOption, MatchBool, refl, sym, ap, ◌∙◌, subst, get_or, drop}
-use Rattle.subst_expr.specs.Pieces.{Piece, Plain, Pair, backslash, spelled, IsPart, is_delimiter, is_printable}
-use Rattle.subst_expr.specs.Split.{Division, Undivided, Halved, Whole, Divides, IsEnd, split_of, SplitsRest, Splits}
+use Rattle.std.proofs.Common.{◌≡◌, ◌≢◌, ◌⊎◌, inl, inr, ℕ, not, Bool, true, false, List, [], ◌∷◌, ◌++◌, position, Option, Some, None, Result, Ok, Err, MatchOption, MatchBool, refl, sym, ap, ◌∙◌, subst, get_or, drop}
+use Rattle.subst_expr.specs.Pieces.{Piece, Plain, Pair, backslash, spelled, IsPart, is_delimiter, is_printable, bad_escape}
+use Rattle.subst_expr.specs.Replacement.{HasPieces}
+use Rattle.subst_expr.specs.Split.{Division, Undivided, Halved, Whole, Divides, IsEnd, split_of, SplitsRest, Splits, fault_or, bad_flag, repl_place, flags_place}
 use Rattle.subst_expr.specs.declared.subst.Subst.{Subst}
 use Rattle.subst_expr.specs.declared.subst.SubstFault.{SubstFault}
-use Rattle.subst_expr.specs.declared.subst.SubstFault.TheVariants.{NotPrintable, BadDelimiter}
+use Rattle.subst_expr.specs.declared.subst.SubstFault.TheVariants.{Empty, NotPrintable, BadDelimiter, BadFlag, BadEscape}
+
+-- a split, where there is one
+abbrev pub ok_or : Subst → Result Subst SubstFault → Subst
+ok_or s (Ok r) = r
+ok_or s (Err fault) = s
 
 first_of_list : (a b : ℕ) (x y : List ℕ) → a ∷ x ≡ b ∷ y → a ≡ b
 first_of_list a b x y e = ap (λ l. get_or l 0 0) e
@@ -104,6 +110,55 @@ same_printed delim rest (Some at) r s h k = h ∙ sym k
 pub same_split : (text : List ℕ) (r s : Result Subst SubstFault) → Splits text r → Splits text s → r ≡ s
 same_split [] r s h k = h ∙ sym k
 same_split (delim ∷ rest) r s h k = same_printed delim rest (position (λ b. not (is_printable b)) (delim ∷ rest)) r s h k
+
+-- bytes are written with one list of pieces
+same_spelled : (delim : ℕ) (ps qs : List Piece) → IsPart delim ps → IsPart delim qs → spelled ps ≡ spelled qs → ps ≡ qs
+same_spelled delim [] [] p q e = refl
+same_spelled delim [] (Plain b ∷ qs) p q e = absurd (cc e)
+same_spelled delim [] (Pair b ∷ qs) p q e = absurd (cc e)
+same_spelled delim (Plain a ∷ ps) [] p q e = absurd (cc e)
+same_spelled delim (Pair a ∷ ps) [] p q e = absurd (cc e)
+same_spelled delim (Plain a ∷ ps) (Plain b ∷ qs) p q e =
+    ap (λ c. Plain c ∷ ps) (first_of_list a b (spelled ps) (spelled qs) e) ∙ ap (λ r. Plain b ∷ r) (same_spelled delim ps qs p.2 q.2 (rest_of a b (spelled ps) (spelled qs) e))
+same_spelled delim (Plain a ∷ ps) (Pair b ∷ qs) p q e = absurd (p.1 (first_of_list a backslash (spelled ps) (b ∷ spelled qs) e))
+same_spelled delim (Pair a ∷ ps) (Plain b ∷ qs) p q e = absurd (q.1 (sym (first_of_list backslash b (a ∷ spelled ps) (spelled qs) e)))
+same_spelled delim (Pair a ∷ ps) (Pair b ∷ qs) p q e =
+    let d : a ∷ spelled ps ≡ b ∷ spelled qs = rest_of backslash backslash (a ∷ spelled ps) (b ∷ spelled qs) e in
+    ap (λ c. Pair c ∷ ps) (first_of_list a b (spelled ps) (spelled qs) d) ∙ ap (λ r. Pair b ∷ r) (same_spelled delim ps qs p q (rest_of a b (spelled ps) (spelled qs) d))
+
+-- and so is a replacement
+pub same_pieces : (s : Subst) (ps qs : List Piece) → HasPieces s ps → HasPieces s qs → ps ≡ qs
+same_pieces s ps qs h k = same_spelled s.delim ps qs h.part k.part (sym h.spelt ∙ k.spelt)
+
+no_fault_or : (o : Option ℕ) (fault : ℕ → SubstFault) (s : Subst) (answer : Result Subst SubstFault) → Ok s ≡ fault_or o fault answer → Ok s ≡ answer
+no_fault_or None fault s answer e = e
+no_fault_or (Some at) fault s answer e = absurd (cc e)
+
+whole_pieces : (delim : ℕ) (ere repl : List Piece) (flags : List ℕ) (s : Subst) → IsPart delim repl → Ok s ≡ split_of delim (Whole ere repl flags) → HasPieces s repl
+whole_pieces delim ere repl flags s part e =
+    let is = no_fault_or (bad_escape delim (repl_place ere) repl) BadEscape s _ (no_fault_or (bad_flag (flags_place ere repl) flags) BadFlag s _ e) in
+    record {
+      part = let P : ℕ → Type 0 = λ d. IsPart d repl in subst P (sym (ap (λ r. (ok_or s r).delim) is)) part;
+      spelt = ap (λ r. (ok_or s r).repl) is;
+    }
+
+rest_pieces : (delim : ℕ) (rest : List ℕ) (s : Subst) (d : Division) → Divides delim rest d → Ok s ≡ split_of delim d → (pieces : List Piece) × HasPieces s pieces
+rest_pieces delim rest s (Undivided ere end) d e = absurd (cc e)
+rest_pieces delim rest s (Halved ere repl end) d e = absurd (cc e)
+rest_pieces delim rest s (Whole ere repl flags) d e = (repl, whole_pieces delim ere repl flags s d.1 e)
+
+delimited_pieces : (delim : ℕ) (rest : List ℕ) (x : Bool) (s : Subst) → MatchBool x (SplitsRest delim rest (Ok s)) (Ok s ≡ Err BadDelimiter) → (pieces : List Piece) × HasPieces s pieces
+delimited_pieces delim rest true s (d, divides, is) = rest_pieces delim rest s d divides is
+delimited_pieces delim rest false s e = absurd (cc e)
+
+printed_pieces : (delim : ℕ) (rest : List ℕ) (o : Option ℕ) (s : Subst) → MatchOption o (MatchBool (is_delimiter delim) (SplitsRest delim rest (Ok s)) (Ok s ≡ Err BadDelimiter)) (λ at. Ok s ≡ Err (NotPrintable at)) → (pieces : List Piece) × HasPieces s pieces
+printed_pieces delim rest None s h = delimited_pieces delim rest (is_delimiter delim) s h
+printed_pieces delim rest (Some at) s e = absurd (cc e)
+
+-- the replacement of a split is written with pieces
+pub split_pieces : (text : List ℕ) (s : Subst) → Splits text (Ok s) → (pieces : List Piece) × HasPieces s pieces
+split_pieces [] s e = absurd (cc e)
+split_pieces (delim ∷ rest) s h = printed_pieces delim rest (position (λ b. not (is_printable b)) (delim ∷ rest)) s h
 
 -- and so have bytes that equal it
 pub same_split_of : (text bytes : List ℕ) (r s : Result Subst SubstFault) → bytes ≡ text → Splits bytes r → Splits text s → r ≡ s

@@ -1,11 +1,22 @@
 -- That rules have one answer, as statements (this project's own).
-use Rattle.std.specs.Prelude.{◌≡◌, ℕ, List}
+use Rattle.std.specs.Prelude.{◌≡◌, ◌≢◌, ℕ, List, Result}
 use Rattle.posix_ere.specs.Tree.{Tree}
 use Rattle.subst_expr.specs.Regexp.{HasTree, IsWellFormed, IsRegexpFault}
 use Rattle.subst_expr.specs.Output.{IsOutput, IsUnmatched}
+use Rattle.subst_expr.specs.Split.{Splits}
 use Rattle.subst_expr.specs.declared.subst.Subst.{Subst}
+use Rattle.subst_expr.specs.declared.subst.SubstFault.{SubstFault}
 use Rattle.subst_expr.specs.declared.regexp.RegexpFault.{RegexpFault}
 use Rattle.subst_expr.specs.declared.regexp.RegexpFault.TheVariants.{Memory}
+
+-- a text has one answer of the split
+abbrev pub OneSplit : Type 0
+OneSplit = (text : List ℕ) (one other : Result Subst SubstFault) → Splits text one → Splits text other → one ≡ other
+
+-- a text has one fault at most, want of memory apart
+abbrev pub OneFault : Type 0
+OneFault =
+    (text : List ℕ) (one other : RegexpFault) → one ≢ Memory → other ≢ Memory → IsRegexpFault text one → IsRegexpFault text other → one ≡ other
 
 -- a text has one split and one tree
 abbrev pub OneReading : Type 0

@@ -1,7 +1,7 @@
+pub mod Laws
+pub mod Output
 pub mod Pieces
+pub mod Regexp
+pub mod Replacement
 pub mod Scans
 pub mod Split
-pub mod Replacement
-pub mod Regexp
-pub mod Output
-pub mod Laws

@@ -3,7 +3,8 @@ use Rattle.std.specs.Prelude.{◌≡◌, ◌≢◌, ◌⊎◌, ℕ, ◌<◌, ◌
 use Rattle.posix_ere.specs.Tree.{Tree}
 use Rattle.submatch.specs.declared.spans.Span.{Span}
 use Rattle.submatch.specs.Best.{HasNoMatch, AreBestGroups}
-use Rattle.subst_expr.specs.Replacement.{items, expansion}
+use Rattle.subst_expr.specs.Pieces.{Piece}
+use Rattle.subst_expr.specs.Replacement.{HasPieces, expansion}
 use Rattle.subst_expr.specs.Regexp.{IsRegexp, IsRegexpFault}
 use Rattle.subst_expr.specs.declared.subst.Subst.{Subst}
 use Rattle.subst_expr.specs.declared.regexp.RegexpFault.{RegexpFault}
@@ -17,8 +18,12 @@ abbrev pub HasNone : Subst → Tree → List ℕ → Type 0
 HasNone s t aus = (i : ℕ) → i ≤ length aus → HasNoMatch s.fold aus t i
 
 -- the bytes are the expansion of the replacement by the groups of the best match in the original string
-abbrev pub Expands : Subst → Tree → List ℕ → List ℕ → Type 0
-Expands s t aus bytes = (groups : List (Option Span)) × AreBestGroups s.fold aus t groups × (bytes ≡ expansion aus groups (items s.repl))
+pub record Expands (s : Subst) (t : Tree) (aus bytes : List ℕ) : Type 0 where
+  pub groups : List (Option Span)
+  pub pieces : List Piece
+  pub best : AreBestGroups s.fold aus t groups
+  pub spelt : HasPieces s pieces
+  pub given : bytes ≡ expansion aus groups pieces
 
 -- the expansion, or that there is no match
 abbrev pub TellsExpansion : Subst → Tree → List ℕ → Option (List ℕ) → Type 0
@@ -55,10 +60,3 @@ apply_fault RegexpFault.Memory = Memory
 -- this answer, or want of memory in its place
 abbrev pub IsAnswer : Result Applied ApplyFault → Result Applied ApplyFault → Type 0
 IsAnswer result answer = (result ≡ answer) ⊎ (result ≡ Err Memory)
-
--- the text is refused, or want of memory is told in its place
-abbrev pub IsRefusal : Result Applied ApplyFault → Type 0
-IsRefusal (Ok applied) = ⊥
-IsRefusal (Err (IllFormed fault)) = Unit {0}
-IsRefusal (Err TooLong) = ⊥
-IsRefusal (Err Memory) = Unit {0}

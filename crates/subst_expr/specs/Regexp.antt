@@ -1,19 +1,22 @@
 -- Which texts are well-formed rules, and the first fault of the others (this project's own).
-use Rattle.std.specs.Prelude.{◌≡◌, ◌≢◌, ℕ, ◌≤◌, false, List, Option, Some, None, Ok, Err}
+use Rattle.std.specs.Prelude.{◌≡◌, ◌≢◌, ℕ, ◌≤◌, List, Option, Some, None, Ok, Err}
 use Rattle.posix_ere.specs.Tree.{Tree}
 use Rattle.posix_ere.specs.Parts.{weight, groups}
 use Rattle.posix_ere.specs.Grammar.{Reads}
 use Rattle.posix_ere.specs.Answers.{IsFaultOf}
 use Rattle.posix_ere.specs.declared.why.EreFault.{EreFault}
 use Rattle.subst_expr.specs.Split.{Splits}
-use Rattle.subst_expr.specs.Replacement.{missing_from}
+use Rattle.subst_expr.specs.Pieces.{Piece}
+use Rattle.subst_expr.specs.Replacement.{HasPieces, first_missing}
 use Rattle.subst_expr.specs.declared.subst.Subst.{Subst}
 use Rattle.subst_expr.specs.declared.regexp.RegexpFault.{RegexpFault}
 use Rattle.subst_expr.specs.declared.regexp.RegexpFault.TheVariants.{Split, Ere, NoGroup, Memory}
 
--- the place in the text of the first back reference to a group that the tree lacks
-abbrev pub missing_group : Tree → Subst → Option ℕ
-missing_group t s = missing_from (groups t) false s.repl_at s.repl
+-- the place in the text of the first back reference to a group that the tree lacks, or none
+pub record IsFirstMissing (t : Tree) (s : Subst) (place : Option ℕ) : Type 0 where
+  pub pieces : List Piece
+  pub spelt : HasPieces s pieces
+  pub found : place ≡ first_missing (groups t) s.repl_at pieces
 
 -- the text splits so, and its expression has that tree, of a weight of at most 512
 pub record HasTree (text : List ℕ) (s : Subst) (t : Tree) : Type 0 where
@@ -23,7 +26,7 @@ pub record HasTree (text : List ℕ) (s : Subst) (t : Tree) : Type 0 where
 
 -- the text is well formed: each back reference names a group of the tree too
 abbrev pub IsRegexp : List ℕ → Subst → Tree → Type 0
-IsRegexp text s t = HasTree text s t × (missing_group t s ≡ None)
+IsRegexp text s t = HasTree text s t × IsFirstMissing t s None
 
 -- the text is well formed
 abbrev pub IsWellFormed : List ℕ → Type 0
@@ -33,7 +36,7 @@ IsWellFormed text = (s : Subst) × (t : Tree) × IsRegexp text s t
 abbrev pub IsRegexpFault : List ℕ → RegexpFault → Type 0
 IsRegexpFault text (Split fault) = Splits text (Err fault)
 IsRegexpFault text (Ere fault) = (fault ≢ EreFault.Memory) × (s : Subst) × Splits text (Ok s) × IsFaultOf s.ere fault
-IsRegexpFault text (NoGroup at) = (s : Subst) × (t : Tree) × HasTree text s t × (missing_group t s ≡ Some at)
+IsRegexpFault text (NoGroup at) = (s : Subst) × (t : Tree) × HasTree text s t × IsFirstMissing t s (Some at)
 IsRegexpFault text Memory = Unit {0}
 
 -- the fault that a fault of the expression is

@@ -2,7 +2,8 @@
 ghost use Rattle.std.specs.Prelude.{◌≡◌, ◌≤◌, ◌++◌, ◌==◌, ◌&&◌, not, false, length, IfOk, OnOk};
 ghost use Rattle.submatch.specs.Groups.{MatchSpans};
 ghost use Rattle.subst_expr.specs.Pieces.{backslash};
-ghost use Rattle.subst_expr.specs.Replacement.{escaped_item, expansion, given, is_group_digit, items, missing_from, taken};
+ghost use Rattle.subst_expr.specs.Replacement.{is_group_digit, pair_given, taken};
+ghost use Rattle.subst_expr.specs.Scans.{expansion_from, missing_from};
 
 use crate::scan::begins_pair;
 use enum_base::{Bytes, MemoryFault};
@@ -39,7 +40,7 @@ pub(crate) fn expansion<A: Allocator>(
     aus: &[u8],
     spans: &Spans,
 ) -> Result<Bytes<A>, MemoryFault>
-    ensures { IfOk result (λ bytes. bytes ≡ expansion aus.now spans.now.groups (items repl.now)) }
+    ensures { IfOk result (λ bytes. bytes ≡ expansion_from aus.now spans.now.groups false repl.now) }
 {
     let mut bytes = Bytes::new(alloc);
     let mut escaped = false;
@@ -63,7 +64,7 @@ fn push_escaped<A: Allocator>(
     aus: &[u8],
     spans: &Spans,
 ) -> Result<(), MemoryFault>
-    ensures { OnOk result (bytes.new ≡ bytes.old ++ given aus.now spans.now.groups (escaped_item b)) }
+    ensures { OnOk result (bytes.new ≡ bytes.old ++ pair_given aus.now spans.now.groups b) }
 {
     if is_group_digit(b) {
         bytes.push_slice(taken(aus, spans.group(b - b'0')))

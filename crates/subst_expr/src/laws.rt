@@ -1,8 +1,21 @@
 //! That rules have one answer. Each function does nothing: its contract is a law, proved like any other contract.
-ghost use Rattle.subst_expr.specs.Laws.{OneReading, WellFormedHasNoFault, OneOutput, UnmatchedHasNoOutput};
+ghost use Rattle.subst_expr.specs.Laws.{OneSplit, OneFault, OneReading, WellFormedHasNoFault, OneOutput, UnmatchedHasNoOutput};
 
-use posix_ere::has_one_tree;
+use posix_ere::{has_one_fault, has_one_tree};
 use submatch::laws::best_match;
+
+/// A text has one split, or one fault of the split.
+pub fn one_split()
+    ensures { OneSplit }
+{}
+
+/// A text has one fault at most, want of memory apart.
+pub fn one_fault()
+    ensures { OneFault }
+{
+    has_one_tree();
+    has_one_fault();
+}
 
 /// A text has one split and one tree, and a well-formed one has no fault but want of memory.
 pub fn one_reading()

@@ -5,7 +5,6 @@
 mod expand;
 pub mod laws;
 mod regexp;
-mod row;
 mod rule;
 mod scan;
 mod subst;
@@ -13,8 +12,3 @@ mod subst;
 pub use regexp::{RegexpFault, check};
 pub use rule::{Applied, ApplyFault, apply};
 pub use subst::{Subst, SubstFault};
-
-#[cfg(test)]
-mod rule_tests;
-#[cfg(test)]
-mod tests;

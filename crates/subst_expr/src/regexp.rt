@@ -1,13 +1,13 @@
 //! Well-formed rules: the text splits, its expression has a tree, and each back reference names a group of it.
-ghost use Rattle.std.specs.Prelude.{◌≡◌, ◌≢◌, ◌≤◌, IfOk, length};
-ghost use Rattle.std.specs.Result.{IfErr, IsErr};
+ghost use Rattle.std.specs.Prelude.{◌≡◌, ◌≢◌, ◌⊎◌, ◌≤◌, Err, IfOk, length};
+ghost use Rattle.std.specs.Result.{IfErr};
 ghost use Rattle.posix_ere.specs.Nodes.{whole};
 ghost use Rattle.subst_expr.specs.Regexp.{IsRegexp, IsWellFormed, IsRegexpFault, ere_fault};
 ghost use Rattle.subst_expr.specs.declared.regexp.RegexpFault.{RegexpFault};
 ghost use Rattle.subst_expr.specs.declared.regexp.RegexpFault.TheVariants as RegexpFault;
 
 use crate::expand::first_missing;
-use crate::laws::one_reading;
+use crate::laws::{one_fault, one_reading};
 use crate::subst::{Subst, SubstFault};
 use enum_base::Text255;
 use posix_ere::{Ere, EreFault};
@@ -45,10 +45,12 @@ pub fn check<A: Allocator + Copy>(alloc: A, text: &Text255) -> Result<(), Regexp
     ensures ok { IfOk result (λ _. IsWellFormed text.now) }
     ensures err { IfErr result (λ fault. IsRegexpFault text.now fault) }
 
-    // A well-formed text is accepted and any other refused, or want of memory is told.
+    // A well-formed text is accepted and any other refused with its fault, or want of memory is told.
     ensures accepts { IsWellFormed text.now → IfErr result (λ fault. fault ≡ RegexpFault.Memory) }
-    ensures refuses { (fault : RegexpFault) → fault ≢ RegexpFault.Memory → IsRegexpFault text.now fault → IsErr result }
+    ensures refuses { (fault : RegexpFault) → fault ≢ RegexpFault.Memory → IsRegexpFault text.now fault →
+        (result ≡ Err fault) ⊎ (result ≡ Err RegexpFault.Memory) }
 {
+    one_fault();
     one_reading();
     checked(alloc, text)
 }

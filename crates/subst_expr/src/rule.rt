@@ -2,15 +2,17 @@
 ghost use Rattle.std.specs.Prelude.{◌≡◌, ◌≢◌, ◌⊎◌, ◌<◌, ◌≤◌, ℕ, List, [], Ok, Err, IfOk, OnErr, length};
 ghost use Rattle.std.specs.Result.{IfErr};
 ghost use Rattle.posix_ere.specs.Nodes.{whole};
-ghost use Rattle.subst_expr.specs.Output.{IsOutput, IsUnmatched, IsApplied, IsApplyFault, IsAnswer, IsRefusal, TellsExpansion, apply_fault};
+ghost use Rattle.subst_expr.specs.Output.{IsOutput, IsUnmatched, IsApplied, IsApplyFault, IsAnswer, TellsExpansion, apply_fault};
+ghost use Rattle.subst_expr.specs.Pieces.{Piece};
 ghost use Rattle.subst_expr.specs.Regexp.{IsRegexpFault};
+ghost use Rattle.subst_expr.specs.Replacement.{HasPieces};
 ghost use Rattle.subst_expr.specs.declared.regexp.RegexpFault.{RegexpFault};
 ghost use Rattle.subst_expr.specs.declared.regexp.RegexpFault.TheVariants as RegexpFault;
 ghost use Rattle.subst_expr.specs.declared.rule.Applied.TheVariants as Applied;
 ghost use Rattle.subst_expr.specs.declared.rule.ApplyFault.TheVariants as ApplyFault;
 
 use crate::expand::expansion;
-use crate::laws::{one_output, one_reading};
+use crate::laws::{one_fault, one_output, one_reading};
 use crate::regexp::{RegexpFault, read};
 use crate::subst::Subst;
 use enum_base::{Bytes, MemoryFault, Steps, Text255};
@@ -83,8 +85,9 @@ pub fn apply<A: Allocator + Copy, L: Ledger>(
     ensures too_long { (bytes : List ℕ) → IsOutput text.now aus.now bytes → 1024 < length bytes →
         IsAnswer result (Err ApplyFault.TooLong) }
     ensures ill_formed { (fault : RegexpFault) → fault ≢ RegexpFault.Memory → IsRegexpFault text.now fault →
-        IsRefusal result }
+        IsAnswer result (Err (ApplyFault.IllFormed fault)) }
 {
+    one_fault();
     one_reading();
     one_output();
     append_output(alloc, text, aus, out, steps)
@@ -125,7 +128,8 @@ fn output<A: Allocator + Copy, L: Ledger>(
     aus: &[u8],
     steps: &mut Steps<L>,
 ) -> Result<Option<Bytes<A>>, MemoryFault>
-    requires { length aus.now ≤ 255 }
+    requires short { length aus.now ≤ 255 }
+    requires pieces { (pieces : List Piece) × HasPieces subst.now pieces }
     ensures { IfOk result (TellsExpansion subst.now (whole ere.now) aus.now) }
 {
     let mut matcher = Matcher::new(ere);

@@ -3,7 +3,7 @@ ghost use Rattle.std.specs.Prelude.{◌≡◌, ◌+◌, ◌≤◌, ◌==◌, ◌
 ghost use Rattle.subst_expr.specs.Pieces.{backslash, is_delimiter, is_escape, is_flag, is_printable, is_special};
 ghost use Rattle.subst_expr.specs.Scans.{delimiter_from, halves, bad_escape_from, undone_from};
 
-use crate::row::Row;
+use enum_base::Buffer;
 
 /// Whether the byte may be a delimiter.
 pub(crate) fn is_delimiter(b: u8) -> bool
@@ -87,12 +87,12 @@ fn is_escape(delim: u8, b: u8) -> bool
 }
 
 /// The bytes, with each escaped delimiter as the delimiter alone.
-pub(crate) fn undone(delim: u8, ere: &[u8]) -> Row
+pub(crate) fn undone(delim: u8, ere: &[u8]) -> Buffer<255>
     requires { length ere.now ≤ 255 }
     ensures value { result ≡ undone_from delim false ere.now }
     ensures short { length result ≤ 255 }
 {
-    let mut row = Row::new();
+    let mut row = Buffer::new();
     let mut escaped = false;
     for b in ere {
         if escaped {

@@ -1,5 +1,5 @@
 use Rattle.std.proofs.Common.{◌≡◌, ◌<◌, ◌+◌, true, false, drop}
-use Rattle.subst_expr.specs.Replacement.{missing_from}
+use Rattle.subst_expr.specs.Scans.{missing_from}
 use Rattle.subst_expr.proofs.expand.first_missing.Given as goal
 
 -- the rest holds the first missing group; an escaped byte has one before it

@@ -1,4 +1,4 @@
-use Rattle.subst_expr.proofs.rule_tests.answer.Given as goal
+use Rattle.subst_cases.proofs.rules.applied.Given as goal
 
 -- the steps are counted in the new ledger
 abbrev pub ghosts-counted : goal.ghosts-counted
