@@ -1,19 +1,20 @@
 -- One ask of a walk: what it leaves of the source, and of the counts.
 use Rattle.std.proofs.Common.{◌≡◌, ℕ, ◌<◌, ◌≤◌, List, [], ◌∷◌, ◌++◌, length, take, sym, ap, subst, inr, arith}
-use Rattle.std.specs.Prelude.{Contains, Ok, Err}
+use Rattle.std.specs.Prelude.{Contains, Ok, Err, IsTrue}
 use Rattle.std.proofs.lemmas.List.{length-append}
 use Rattle.enum_base.specs.Causes.{Rose, one_more}
-use Rattle.naptr_data.specs.Sources.{AreDistinct, HasFewRules, Offers, Fronts, Fetches, AreKept}
-use Rattle.naptr_data.specs.Zones.{Labels}
+use Rattle.enum_base.specs.Outside.{WhereTold}
+use Rattle.naptr_data.specs.Sources.{SourceState, AreDistinct, HasFewRules, Fronts, Fetches, AreKept}
+use Rattle.naptr_data.specs.Zones.{Labels, IsOffer}
 use Rattle.naptr_data.specs.declared.offer.Offer.{Offer}
 use Rattle.ddds_walk.specs.Asking.{more}
 use Rattle.ddds_walk.specs.Kept.{HasKept}
-use Rattle.ddds_walk.specs.Turns.{Tally, HasAsked}
+use Rattle.ddds_walk.specs.Turns.{HasAsked}
 use Rattle.ddds_walk.specs.declared.fault.WalkFault.TheVariants.{Trouble, Memory}
 use Rattle.ddds_walk.proofs.Elements.{distinct_push}
 use Rattle.ddds_walk.proofs.Kept.{kept_more, asks_more}
 
-module _ (limit : ℕ) (t u : Tally) (Failed : Type 0) (asked asked' : List Labels) (next : Labels)
+module _ (limit : ℕ) (t u : SourceState) (asked asked' : List Labels) (next : Labels)
     (once : AreDistinct asked) (room_left : length asked < limit) (new : ¬ Contains asked next) (grew : asked' ≡ asked ++ next ∷ [])
     (zones : u.zones ≡ t.zones) (room : u.room ≡ t.room) (lent : u.lent ≡ t.lent) (later : t.troubles ≤ u.troubles)
     (asks : u.asks ≡ one_more t.asks) where
@@ -27,10 +28,10 @@ module _ (limit : ℕ) (t u : Tally) (Failed : Type 0) (asked asked' : List Labe
   asks_grew a e = subst (λ v. u.asks ≡ more (length v) a) (sym grew) (asks_more asked next a t.asks u.asks e asks)
 
   -- the source answers
-  pub asked_ok : (o : Offer) → HasFewRules o → Offers t.zones next o
+  pub asked_ok : (o : Offer) → HasFewRules o → WhereTold t.zones (λ zones. IsOffer zones next o)
       → (all : List Labels) × Fronts next t.kept all × (u.kept ≡ take t.room all)
       → Fetches next t.kept t.fetched u.fetched → AreKept t.kept t.fetched
-      → HasAsked limit t u Failed asked asked' next (Ok o)
+      → HasAsked limit t u asked asked' next (Ok o)
   asked_ok o few offered keeps fetches are = record {
     serves = record { zones = zones; room = room; lent = lent; later = later; trouble = λ e. cc };
     counts = record {
@@ -47,7 +48,7 @@ module _ (limit : ℕ) (t u : Tally) (Failed : Type 0) (asked asked' : List Labe
   }
 
   -- the source has trouble
-  pub asked_trouble : Rose t.troubles u.troubles → Failed → HasAsked limit t u Failed asked asked' next (Err Trouble)
+  pub asked_trouble : Rose t.troubles u.troubles → IsTrue u.failed → HasAsked limit t u asked asked' next (Err Trouble)
   asked_trouble rose failed = record {
     serves = record { zones = zones; room = room; lent = lent; later = later; trouble = λ e. (rose, failed) };
     counts = record { once = once_more; few = few_more; asks = asks_grew; kept = λ x k f h. absurd x; met = λ n e. cc };
@@ -57,7 +58,7 @@ module _ (limit : ℕ) (t u : Tally) (Failed : Type 0) (asked asked' : List Labe
   }
 
   -- memory is wanting
-  pub asked_memory : HasAsked limit t u Failed asked asked' next (Err Memory)
+  pub asked_memory : HasAsked limit t u asked asked' next (Err Memory)
   asked_memory = record {
     serves = record { zones = zones; room = room; lent = lent; later = later; trouble = λ e. cc };
     counts = record { once = once_more; few = few_more; asks = asks_grew; kept = λ x k f h. absurd x; met = λ n e. cc };

@@ -1,15 +1,16 @@
 -- Turns of a walk that ask: what each leaves, and the whole walk from its turns.
 use Rattle.std.proofs.Common.{◌≡◌, ◌↔◌, ℕ, zero, suc, ◌+◌, ◌<◌, ◌≤◌, ◌⊎◌, List, [], ◌∷◌, ◌++◌, length, drop, refl, sym, ◌∙◌, ap, subst, inl, inr, arith}
-use Rattle.std.specs.Prelude.{Contains, Some, slice_get, Result, Ok, Err}
+use Rattle.std.specs.Prelude.{Contains, Some, slice_get, Result, Ok, Err, IsErrAnd}
 use Rattle.std.specs.List.{sum_by}
-use Rattle.std.proofs.lemmas.List.{length-append}
+use Rattle.std.proofs.lemmas.List.{length-append, map-append}
 use Rattle.std.proofs.lemmas.List.Sums.{sum_by-append}
 use Rattle.std.proofs.lemmas.List.Elements.{Contains-push_cases}
 use Rattle.std.proofs.lemmas.Option.{slice_get_within}
 use Rattle.std.proofs.lemmas.Str.Ascii.{lowercase-lowercase}
 use Rattle.enum_base.specs.Folding.{folded}
+use Rattle.enum_base.specs.Outside.{WhereTold}
 use Rattle.dns_name.specs.Name.{folded_labels}
-use Rattle.naptr_data.specs.Sources.{AreDistinct, Offers}
+use Rattle.naptr_data.specs.Sources.{SourceState, AreDistinct}
 use Rattle.naptr_data.specs.Zones.{Labels, Zone, IsOffer}
 use Rattle.naptr_data.specs.declared.offer.Offer.{Offer}
 use Rattle.naptr_data.specs.declared.offer.Offer.TheVariants as offer
@@ -20,19 +21,19 @@ use Rattle.ddds_walk.specs.Asking.{more, NeedsMore}
 use Rattle.ddds_walk.specs.Graph.{graph_of}
 use Rattle.ddds_walk.specs.Kept.{HasKept}
 use Rattle.ddds_walk.specs.Report.{IsNeeded, AreSomeNeeded}
-use Rattle.ddds_walk.specs.Rules.{Client, GivesAs, IsEdgeOf}
-use Rattle.ddds_walk.specs.Turns.{Tally, IsSound, AreFolded, left_at, left_in, IsAt, HasMoved, Serves, Counts, HasTurned, HasAsked, Opens}
+use Rattle.ddds_walk.specs.Rules.{Client, Yields, IsEdgeOf}
+use Rattle.ddds_walk.specs.Turns.{IsSound, IsWay, AreFolded, left_at, left_in, IsAt, HasMoved, Serves, Counts, HasTurned, HasAsked, Opens}
 use Rattle.ddds_walk.specs.Ways.{path_of, domains_of}
 use Rattle.ddds_walk.specs.declared.edge.Edge.{Edge}
 use Rattle.ddds_walk.specs.declared.edge.Edge.TheVariants.{Step}
 use Rattle.ddds_walk.specs.declared.fault.WalkFault.{WalkFault}
 use Rattle.ddds_walk.specs.declared.fault.WalkFault.TheVariants.{Limit, Trouble, Memory}
 use Rattle.ddds_walk.specs.declared.frame.Frame.{Frame}
-use Rattle.ddds_walk.specs.declared.turn.Turn.{Turn}
-use Rattle.ddds_walk.specs.declared.turn.Turn.TheVariants.{On}
-use Rattle.ddds_walk.specs.declared.turn.Walk.{Walk}
+use Rattle.ddds_walk.specs.declared.walker.Turn.{Turn}
+use Rattle.ddds_walk.specs.declared.walker.Turn.TheVariants.{On}
+use Rattle.ddds_walk.specs.declared.walker.Walker.{Walker}
 use Rattle.ddds_walk.proofs.Elements.{distinct_push}
-use Rattle.ddds_walk.proofs.Sound.{past_push}
+use Rattle.ddds_walk.proofs.Sound.{past_push, way_push}
 use Rattle.ddds_walk.proofs.StateMore.{state_needed, state_enter}
 
 -- a folded name is folded again to itself
@@ -48,15 +49,15 @@ folds_twice (l ∷ labels) = ap (λ v. v ∷ folded_labels (folded_labels labels
 same_folds : (d x : Labels) → d ≡ folded_labels x → folded_labels d ≡ d
 same_folds d x e = ap folded_labels e ∙ folds_twice x ∙ sym e
 
-gift_folds : (k : Kind) (c : Client) (rule : Naptr) (d : Labels) → GivesAs k c rule (Step d) → folded_labels d ≡ d
-gift_folds kind.Step c rule d (s, inl (r, e)) = same_folds d rule.replacement e
-gift_folds kind.Step c rule d (s, inr (b, r, (bytes, labels, o, n, e))) = same_folds d labels e
+gift_folds : (k : Kind) (c : Client) (rule : Naptr) (d : Labels) → Yields k c rule (Step d) → folded_labels d ≡ d
+gift_folds kind.Step c rule d (inl (r, e)) = same_folds d rule.replacement e
+gift_folds kind.Step c rule d (inr (r, (bytes, labels, o, n, e))) = same_folds d labels e
 gift_folds kind.TerminalUri c rule d g = absurd g
 gift_folds (kind.TerminalName l) c rule d g = absurd g
 gift_folds kind.Unknown c rule d g = absurd g
 
 edge_folds : (c : Client) (o : Offer) (r : ℕ) (d : Labels) → IsEdgeOf c o r (Step d) → folded_labels d ≡ d
-edge_folds c (offer.Rules rules) r d (chosen, rule, f, s, g) = gift_folds (c.kind rule.flags) c rule d g
+edge_folds c (offer.Rules rules) r d (chosen, rule, f, s, g) = gift_folds (c.kind rule.flags) c rule d g.yields
 edge_folds c (offer.Alias target) r d (z, e) = let f : d ≡ folded_labels target = cc in same_folds d target f
 edge_folds c offer.Unserved r d e = absurd e
 
@@ -67,9 +68,9 @@ pub key_folds : (key : Labels) → AreFolded (Step (folded_labels key) ∷ [])
 key_folds key zero d e = let f : d ≡ folded_labels key = cc in same_folds d key f
 key_folds key (suc r) d e = cc
 
-module _ (c : Client) (limit : ℕ) (t : Tally) (Failed : Type 0) (w w' : Walk) where
+module _ (c : Client) (limit : ℕ) (t : SourceState) (w w' : Walker) where
   -- a turn that asks nobody
-  pub turned_moved : (turn : Turn) → IsSound limit w → HasMoved limit w w' turn → HasTurned c limit t t Failed w w' (Ok turn)
+  pub turned_moved : (turn : Turn) → IsSound limit w → HasMoved limit w w' turn → HasTurned c limit t t w w' (Ok turn)
   turned_moved turn sound m = record {
     serves = record { zones = refl; room = refl; lent = refl; later = omega arith; trouble = λ e. cc };
     counts = record {
@@ -91,7 +92,7 @@ module _ (c : Client) (limit : ℕ) (t : Tally) (Failed : Type 0) (w w' : Walk) 
       some zones key s = subst (λ v. AreSomeNeeded (graph_of c zones) key v) (sym m.asked) (record { once = sound.once; only = s.needed })
 
 -- counts that stand for one result stand for each that is refused in its place
-memory_counts : {A B : Type 0} (limit : ℕ) (t u : Tally) (asked asked' : List Labels) (result : Result A WalkFault)
+memory_counts : {A B : Type 0} (limit : ℕ) (t u : SourceState) (asked asked' : List Labels) (result : Result A WalkFault)
     → Counts limit t u asked asked' result → Counts {A = B} limit t u asked asked' (Err Memory)
 memory_counts limit t u asked asked' result h = record {
   once = h.once;
@@ -101,7 +102,7 @@ memory_counts limit t u asked asked' result h = record {
   met = λ n e. cc;
 }
 
-refused_counts : {A B : Type 0} (limit : ℕ) (t u : Tally) (asked asked' : List Labels) (e : WalkFault)
+refused_counts : {A B : Type 0} (limit : ℕ) (t u : SourceState) (asked asked' : List Labels) (e : WalkFault)
     → Counts {A = A} limit t u asked asked' (Err e) → Counts {A = B} limit t u asked asked' (Err e)
 refused_counts {A} {B} limit t u asked asked' (Limit n) h = record { once = h.once; few = h.few; asks = h.asks; kept = h.kept; met = λ m e. h.met m (limits m e) }
   where
@@ -110,7 +111,7 @@ refused_counts {A} {B} limit t u asked asked' (Limit n) h = record { once = h.on
 refused_counts limit t u asked asked' Trouble h = record { once = h.once; few = h.few; asks = h.asks; kept = λ x k f i. absurd x; met = λ n e. cc }
 refused_counts limit t u asked asked' Memory h = record { once = h.once; few = h.few; asks = h.asks; kept = λ x k f i. absurd x; met = λ n e. cc }
 
-module _ (c : Client) (limit : ℕ) (t u : Tally) (Failed : Type 0) (w w' : Walk) (asked : List Labels) (next : Labels)
+module _ (c : Client) (limit : ℕ) (t u : SourceState) (w w' : Walker) (asked : List Labels) (next : Labels)
     (sound : IsSound limit w) (here : slice_get w.top.edges w.top.rank ≡ Some (Step next))
     (new : ¬ Contains w.asked next) (away : ¬ (Contains (domains_of w.below) (Some next) ⊎ (w.top.domain ≡ Some next))) where
   -- what was asked is needed, with the domain of the edge or without
@@ -130,15 +131,15 @@ module _ (c : Client) (limit : ℕ) (t u : Tally) (Failed : Type 0) (w w' : Walk
   turn_cases (inl e) = inl (sym e)
   turn_cases (inr e) = inr e
 
-  refused_serves : (e : WalkFault) → Serves {A = Offer} t u Failed (Err e) → Serves {A = Turn} t u Failed (Err e)
+  refused_serves : (e : WalkFault) → Serves {A = Offer} t u (Err e) → Serves {A = Turn} t u (Err e)
   refused_serves e s = record { zones = s.zones; room = s.room; lent = s.lent; later = s.later; trouble = λ h. s.trouble (troubles h) }
     where
       troubles : ◌≡◌ {A = Result Turn WalkFault} (Err e) (Err Trouble) → ◌≡◌ {A = Result Offer WalkFault} (Err e) (Err Trouble)
       troubles h = let f : e ≡ Trouble = cc in ap Err f
 
   -- the source was not asked, or has no answer
-  pub turned_refused : (e : WalkFault) → HasAsked limit t u Failed w.asked asked next (Err e) → w'.asked ≡ asked
-      → HasTurned c limit t u Failed w w' (Err e)
+  pub turned_refused : (e : WalkFault) → HasAsked limit t u w.asked asked next (Err e) → w'.asked ≡ asked
+      → HasTurned c limit t u w w' (Err e)
   turned_refused e a same = record {
     serves = refused_serves e a.serves;
     counts = refused_counts limit t u w.asked w'.asked e (subst (λ v. Counts {A = Offer} limit t u w.asked v (Err e)) (sym same) a.counts);
@@ -166,12 +167,12 @@ module _ (c : Client) (limit : ℕ) (t u : Tally) (Failed : Type 0) (w w' : Walk
           by d (inl k) = s.needed d k
           by d (inr f) = subst (λ v. IsNeeded (graph_of c zones) key v) f (state_needed c zones key w.asked w.ends w.below w.top s next here away)
 
-  memory_serves : {A B : Type 0} (result : Result A WalkFault) → Serves t u Failed result → Serves {A = B} t u Failed (Err Memory)
+  memory_serves : {A B : Type 0} (result : Result A WalkFault) → Serves t u result → Serves {A = B} t u (Err Memory)
   memory_serves result s = record { zones = s.zones; room = s.room; lent = s.lent; later = s.later; trouble = λ h. cc }
 
   -- the source answered, and then memory was wanting
-  pub turned_memory : (o : Offer) → HasAsked limit t u Failed w.asked asked next (Ok o) → w'.asked ≡ asked
-      → HasTurned c limit t u Failed w w' (Err Memory)
+  pub turned_memory : (o : Offer) → HasAsked limit t u w.asked asked next (Ok o) → w'.asked ≡ asked
+      → HasTurned c limit t u w w' (Err Memory)
   turned_memory o a same = record {
     serves = memory_serves (Ok o) a.serves;
     counts = memory_counts limit t u w.asked w'.asked (Ok o) (subst (λ v. Counts {A = Offer} limit t u w.asked v (Ok o)) (sym same) a.counts);
@@ -180,9 +181,20 @@ module _ (c : Client) (limit : ℕ) (t u : Tally) (Failed : Type 0) (w w' : Walk
     told = λ zones key is s. (some_needed (turn_cases a.cases) same a.counts.once zones key s, tt, λ n h. cc);
   }
 
+  -- the same of an answer that is known by what it refuses
+  pub refused_by : (r : Result Turn WalkFault) (e : WalkFault) → IsErrAnd r (λ x. x ≡ e)
+      → HasAsked limit t u w.asked asked next (Err e) → w'.asked ≡ asked → HasTurned c limit t u w w' r
+  refused_by (Ok turn) e h a same = absurd h
+  refused_by (Err x) e h a same = subst (λ v. HasTurned c limit t u w w' (Err v)) (sym h) (turned_refused e a same)
+
+  pub memory_by : (r : Result Turn WalkFault) → IsErrAnd r (λ x. x ≡ Memory) → (o : Offer)
+      → HasAsked limit t u w.asked asked next (Ok o) → w'.asked ≡ asked → HasTurned c limit t u w w' r
+  memory_by (Ok turn) h o a same = absurd h
+  memory_by (Err x) h o a same = subst (λ v. HasTurned c limit t u w w' (Err v)) (sym h) (turned_memory o a same)
+
   -- the source answered, and the domain was opened
-  pub turned_on : (o : Offer) → HasAsked limit t u Failed w.asked asked next (Ok o)
-      → Opens c next o (record w { asked = asked }) w' → HasTurned c limit t u Failed w w' (Ok On)
+  pub turned_on : (o : Offer) → HasAsked limit t u w.asked asked next (Ok o)
+      → Opens c next o (record w { asked = asked }) w' → HasTurned c limit t u w w' (Ok On)
   turned_on o a opens = record {
     serves = record { zones = a.serves.zones; room = a.serves.room; lent = a.serves.lent; later = a.serves.later; trouble = λ h. cc };
     counts = record {
@@ -206,7 +218,7 @@ module _ (c : Client) (limit : ℕ) (t u : Tally) (Failed : Type 0) (w w' : Walk
       top : Frame
       top = record { domain = Some next; edges = opens.edges; rank = 0 }
 
-      opened : Walk
+      opened : Walker
       opened = record { asked = asked; ends = w'.ends; below = w.below ++ w.top ∷ []; top = top }
 
       is : opened ≡ w'
@@ -216,8 +228,10 @@ module _ (c : Client) (limit : ℕ) (t u : Tally) (Failed : Type 0) (w w' : Walk
       sound_opened = record {
         once = a.counts.once;
         few = a.counts.few;
-        below = past_push w.below w.top sound.below (rank_in, sound.top.1, sound.top.2);
-        top = (omega arith, opens.few, edges_fold c o opens.edges opens.told);
+        below = past_push w.below w.top sound.below (rank_in, sound.top.1);
+        top = (omega arith, record { few = opens.few; folded = edges_fold c o opens.edges opens.told; root = λ e. cc });
+        way = subst (λ v. IsWay (v ++ Some next ∷ [])) (sym (map-append (λ (x : Frame). x.domain) w.below (w.top ∷ [])))
+            (way_push (domains_of w.below ++ w.top.domain ∷ []) next sound.way);
       }
 
       sound_there : IsSound limit w'
@@ -242,4 +256,4 @@ module _ (c : Client) (limit : ℕ) (t u : Tally) (Failed : Type 0) (w w' : Walk
           new away offered opens.told refl opens.ends))
         where
           offered : IsOffer zones next o
-          offered = subst (λ v. Offers v next o) is-told a.offered.2
+          offered = subst (λ v. WhereTold v (λ zones. IsOffer zones next o)) is-told a.offered.2

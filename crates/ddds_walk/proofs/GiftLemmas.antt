@@ -7,10 +7,10 @@ use Rattle.naptr_data.specs.declared.rule.Naptr.{Naptr}
 use Rattle.service_field.specs.declared.kind.Kind.TheVariants as kind
 use Rattle.subst_expr.specs.Output.{IsOutput}
 use Rattle.subst_expr.specs.Laws.{OneOutput}
-use Rattle.ddds_walk.specs.Rules.{Client, GivesAs, GivesName, HasOutput, HasReplacement, IsUri}
+use Rattle.ddds_walk.specs.Rules.{Client, GivesAs, Yields, GivesName, HasOutput, HasReplacement, IsUri}
 use Rattle.ddds_walk.specs.declared.edge.Edge.{Edge}
 use Rattle.ddds_walk.specs.declared.edge.Edge.TheVariants.{Step, Stop}
-use Rattle.ddds_walk.specs.declared.lists.Outcome.TheVariants.{Uri, Target, Unserved}
+use Rattle.ddds_walk.specs.declared.report.Outcome.TheVariants.{Uri, Target, Unserved}
 
 -- a rule has one output
 one_output : OneOutput → (rule : Naptr) (string bs cs : List ℕ) → HasOutput rule string bs → HasOutput rule string cs → bs ≡ cs
@@ -36,16 +36,22 @@ no_name one rule string output fault h e domain (bytes, labels, k, f, g) =
 -- a rule with no REPLACEMENT alone, and whose REGEXP gives no domain, gives no step
 pub no_step : (c : Client) (rule : Naptr) → (HasReplacement rule → ⊥) → ((domain : Labels) → GivesName rule c.string domain → ⊥)
     → (edge : Edge) → GivesAs kind.Step c rule edge → ⊥
-no_step c rule n f (Step domain) (s, inl (h, e)) = n h
-no_step c rule n f (Step domain) (s, inr (t, h, g)) = f domain g
-no_step c rule n f (Stop r o) h = h
+no_step c rule n f edge g = by edge g.yields
+  where
+    by : (edge : Edge) → Yields kind.Step c rule edge → ⊥
+    by (Step domain) (inl (h, e)) = n h
+    by (Step domain) (inr (h, g)) = f domain g
+    by (Stop r o) h = h
 
 -- an output that is no URI gives no end
 pub no_uri : OneOutput → (c : Client) (rule : Naptr) (output : List ℕ) → HasOutput rule c.string output → (IsUri output → ⊥)
     → (edge : Edge) → GivesAs kind.TerminalUri c rule edge → ⊥
-no_uri one c rule output h n (Step domain) g = g
-no_uri one c rule output h n (Stop r (Uri bytes)) (e, s, f, k, u) =
-    let same : bytes ≡ output = one_output one rule c.string bytes output k h in
-    n (subst (λ b. IsUri b) same u)
-no_uri one c rule output h n (Stop r (Target l name)) g = g
-no_uri one c rule output h n (Stop r Unserved) g = g
+no_uri one c rule output h n edge g = by edge g.yields
+  where
+    by : (edge : Edge) → Yields kind.TerminalUri c rule edge → ⊥
+    by (Step domain) g = g
+    by (Stop r (Uri bytes)) (e, k, u) =
+        let same : bytes ≡ output = one_output one rule c.string bytes output k h in
+        n (subst (λ b. IsUri b) same u)
+    by (Stop r (Target l name)) g = g
+    by (Stop r Unserved) g = g

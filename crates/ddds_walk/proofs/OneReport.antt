@@ -6,8 +6,8 @@ use Rattle.naptr_data.specs.Zones.{Labels, Zone}
 use Rattle.naptr_data.specs.declared.rule.Naptr.{Naptr}
 use Rattle.subst_expr.specs.Laws.{OneOutput}
 use Rattle.ddds_walk.specs.declared.edge.Edge.TheVariants.{Stop}
-use Rattle.ddds_walk.specs.declared.lists.End.{End}
-use Rattle.ddds_walk.specs.declared.lists.Outcome.{Outcome}
+use Rattle.ddds_walk.specs.declared.report.End.{End}
+use Rattle.ddds_walk.specs.declared.report.Outcome.{Outcome}
 use Rattle.ddds_walk.specs.Order.{Less, AreRising}
 use Rattle.ddds_walk.specs.Rules.{Client, IsEdge}
 use Rattle.ddds_walk.specs.Report.{EndsAt, IsEnd, EndName, name_of, IsReport}

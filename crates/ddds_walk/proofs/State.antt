@@ -12,8 +12,8 @@ use Rattle.ddds_walk.specs.Ways.{by_rule, Walked, IsGraph, RootedSteps, tree_of,
 use Rattle.ddds_walk.specs.declared.edge.Edge.{Edge}
 use Rattle.ddds_walk.specs.declared.edge.Edge.TheVariants.{Step, Stop}
 use Rattle.ddds_walk.specs.declared.frame.Frame.{Frame}
-use Rattle.ddds_walk.specs.declared.lists.End.{End}
-use Rattle.ddds_walk.specs.declared.lists.Outcome.{Outcome}
+use Rattle.ddds_walk.specs.declared.report.End.{End}
+use Rattle.ddds_walk.specs.declared.report.Outcome.{Outcome}
 use Rattle.ddds_walk.proofs.Elements.{has_same}
 use Rattle.ddds_walk.proofs.Graphs.{leads_by}
 use Rattle.ddds_walk.proofs.Steps.{as_found, skip, stop}

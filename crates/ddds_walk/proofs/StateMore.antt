@@ -16,10 +16,10 @@ use Rattle.ddds_walk.specs.Ways.{by_domain, Walked, IsGraph, tree_of, path_of, d
 use Rattle.ddds_walk.specs.declared.edge.Edge.{Edge}
 use Rattle.ddds_walk.specs.declared.edge.Edge.TheVariants.{Step}
 use Rattle.ddds_walk.specs.declared.frame.Frame.{Frame}
-use Rattle.ddds_walk.specs.declared.lists.End.{End}
-use Rattle.ddds_walk.specs.declared.lists.LoopPath.{LoopPath}
-use Rattle.ddds_walk.specs.declared.lists.Outcome.TheVariants.{Unserved}
-use Rattle.ddds_walk.specs.declared.lists.Report.TheVariants as report
+use Rattle.ddds_walk.specs.declared.report.End.{End}
+use Rattle.ddds_walk.specs.declared.report.LoopPath.{LoopPath}
+use Rattle.ddds_walk.specs.declared.report.Outcome.TheVariants.{Unserved}
+use Rattle.ddds_walk.specs.declared.report.Report.TheVariants as report
 use Rattle.ddds_walk.proofs.Elements.{cut_last, has_none, has_cons, has_same, distinct_push}
 use Rattle.ddds_walk.proofs.Graphs.{leads_join, passes_push}
 use Rattle.ddds_walk.proofs.Steps.{as_found}

@@ -19,10 +19,10 @@ use Rattle.service_field.specs.declared.kind.Kind.TheVariants as kind
 use Rattle.subst_expr.specs.Laws.{OneOutput}
 use Rattle.ddds_walk.specs.declared.edge.Edge.{Edge}
 use Rattle.ddds_walk.specs.declared.edge.Edge.TheVariants.{Step, Stop}
-use Rattle.ddds_walk.specs.declared.lists.Outcome.{Outcome}
-use Rattle.ddds_walk.specs.declared.lists.Outcome.TheVariants.{Uri, Target, Unserved}
+use Rattle.ddds_walk.specs.declared.report.Outcome.{Outcome}
+use Rattle.ddds_walk.specs.declared.report.Outcome.TheVariants.{Uri, Target, Unserved}
 use Rattle.ddds_walk.specs.Graph.{graph_of}
-use Rattle.ddds_walk.specs.Rules.{Client, HasRegexp, HasReplacement, GivesName, GivesAs, Gives, AreFollowed, IsEdgeOf, IsEdge}
+use Rattle.ddds_walk.specs.Rules.{Client, HasRegexp, HasReplacement, GivesName, Yields, Gives, AreFollowed, IsEdgeOf, IsEdge}
 use Rattle.ddds_walk.specs.Ways.{IsGraph}
 
 -- REGEXP and REPLACEMENT exclude each other
@@ -36,47 +36,48 @@ one_name out rule string d e (bs, ls, o, n, is) (cs, ms, p, m, js) =
     is ∙ ap folded_labels labels ∙ sym js
 
 -- under one meaning of its flags a rule gives one thing
-one_gift_as : OneOutput → (k : Kind) (c : Client) (rule : Naptr) (e f : Edge) → GivesAs k c rule e → GivesAs k c rule f → e ≡ f
-one_gift_as out kind.Step c rule (Step d) (Step e) g h = ap (λ v. Step v) (by g.1 h.1)
+one_yield : OneOutput → (k : Kind) (c : Client) (rule : Naptr) (e f : Edge) → Yields k c rule e → Yields k c rule f → e ≡ f
+one_yield out kind.Step c rule (Step d) (Step e) g h = ap (λ v. Step v) (by g h)
   where
-    by : (HasReplacement rule × (d ≡ folded_labels rule.replacement)) ⊎ ((c.steps_by_regexp ≡ true) × HasRegexp rule × GivesName rule c.string d)
-        → (HasReplacement rule × (e ≡ folded_labels rule.replacement)) ⊎ ((c.steps_by_regexp ≡ true) × HasRegexp rule × GivesName rule c.string e)
+    by : (HasReplacement rule × (d ≡ folded_labels rule.replacement)) ⊎ (HasRegexp rule × GivesName rule c.string d)
+        → (HasReplacement rule × (e ≡ folded_labels rule.replacement)) ⊎ (HasRegexp rule × GivesName rule c.string e)
         → d ≡ e
     by (inl a) (inl b) = a.1 ∙ sym b.1
-    by (inl a) (inr b) = absurd (one_field rule b.1 a.0)
-    by (inr a) (inl b) = absurd (one_field rule a.1 b.0)
-    by (inr a) (inr b) = one_name out rule c.string d e a.2 b.2
-one_gift_as out kind.Step c rule (Step d) (Stop r o) g h = absurd h
-one_gift_as out kind.Step c rule (Stop r o) f g h = absurd g
-one_gift_as out kind.TerminalUri c rule (Stop r (Uri xs)) (Stop s (Uri ys)) g h =
+    by (inl a) (inr b) = absurd (one_field rule b.0 a.0)
+    by (inr a) (inl b) = absurd (one_field rule a.0 b.0)
+    by (inr a) (inr b) = one_name out rule c.string d e a.1 b.1
+one_yield out kind.Step c rule (Step d) (Stop r o) g h = absurd h
+one_yield out kind.Step c rule (Stop r o) f g h = absurd g
+one_yield out kind.TerminalUri c rule (Stop r (Uri xs)) (Stop s (Uri ys)) g h =
     let rules : r ≡ s = g.0 ∙ sym h.0 in
-    let bytes : xs ≡ ys = out rule.regexp c.string xs ys g.3.output h.3.output in
+    let bytes : xs ≡ ys = out rule.regexp c.string xs ys g.1.output h.1.output in
     ap (λ v. Stop v (Uri xs)) rules ∙ ap (λ v. Stop s (Uri v)) bytes
-one_gift_as out kind.TerminalUri c rule (Stop r (Uri xs)) (Step e) g h = absurd h
-one_gift_as out kind.TerminalUri c rule (Stop r (Uri xs)) (Stop s (Target l n)) g h = absurd h
-one_gift_as out kind.TerminalUri c rule (Stop r (Uri xs)) (Stop s Unserved) g h = absurd h
-one_gift_as out kind.TerminalUri c rule (Stop r (Target l n)) f g h = absurd g
-one_gift_as out kind.TerminalUri c rule (Stop r Unserved) f g h = absurd g
-one_gift_as out kind.TerminalUri c rule (Step d) f g h = absurd g
-one_gift_as out (kind.TerminalName l) c rule (Stop r (Target m n)) (Stop s (Target i o)) g h =
+one_yield out kind.TerminalUri c rule (Stop r (Uri xs)) (Step e) g h = absurd h
+one_yield out kind.TerminalUri c rule (Stop r (Uri xs)) (Stop s (Target l n)) g h = absurd h
+one_yield out kind.TerminalUri c rule (Stop r (Uri xs)) (Stop s Unserved) g h = absurd h
+one_yield out kind.TerminalUri c rule (Stop r (Target l n)) f g h = absurd g
+one_yield out kind.TerminalUri c rule (Stop r Unserved) f g h = absurd g
+one_yield out kind.TerminalUri c rule (Step d) f g h = absurd g
+one_yield out (kind.TerminalName l) c rule (Stop r (Target m n)) (Stop s (Target i o)) g h =
     let rules : r ≡ s = g.0 ∙ sym h.0 in
-    let letters : m ≡ i = g.3 ∙ sym h.3 in
-    let names : n ≡ o = g.4 ∙ sym h.4 in
+    let letters : m ≡ i = g.1 ∙ sym h.1 in
+    let names : n ≡ o = g.2 ∙ sym h.2 in
     ap (λ v. Stop v (Target m n)) rules ∙ ap (λ v. Stop s (Target v n)) letters ∙ ap (λ v. Stop s (Target i v)) names
-one_gift_as out (kind.TerminalName l) c rule (Stop r (Target m n)) (Step e) g h = absurd h
-one_gift_as out (kind.TerminalName l) c rule (Stop r (Target m n)) (Stop s (Uri ys)) g h = absurd h
-one_gift_as out (kind.TerminalName l) c rule (Stop r (Target m n)) (Stop s Unserved) g h = absurd h
-one_gift_as out (kind.TerminalName l) c rule (Stop r (Uri xs)) f g h = absurd g
-one_gift_as out (kind.TerminalName l) c rule (Stop r Unserved) f g h = absurd g
-one_gift_as out (kind.TerminalName l) c rule (Step d) f g h = absurd g
-one_gift_as out kind.Unknown c rule e f g h = absurd g
+one_yield out (kind.TerminalName l) c rule (Stop r (Target m n)) (Step e) g h = absurd h
+one_yield out (kind.TerminalName l) c rule (Stop r (Target m n)) (Stop s (Uri ys)) g h = absurd h
+one_yield out (kind.TerminalName l) c rule (Stop r (Target m n)) (Stop s Unserved) g h = absurd h
+one_yield out (kind.TerminalName l) c rule (Stop r (Uri xs)) f g h = absurd g
+one_yield out (kind.TerminalName l) c rule (Stop r Unserved) f g h = absurd g
+one_yield out (kind.TerminalName l) c rule (Step d) f g h = absurd g
+one_yield out kind.Unknown c rule (Step d) f g h = absurd g
+one_yield out kind.Unknown c rule (Stop r o) f g h = absurd g
 
 -- a rule gives one thing
 pub one_gift : OneOutput → (c : Client) (rule : Naptr) (e f : Edge) → Gives c rule e → Gives c rule f → e ≡ f
-one_gift out c rule e f g h = one_gift_as out (c.kind rule.flags) c rule e f g h
+one_gift out c rule e f g h = one_yield out (c.kind rule.flags) c rule e f g.yields h.yields
 
 -- a terminal edge is that of the rule that gives it
-own_rule : (k : Kind) (c : Client) (rule r : Naptr) (o : Outcome) → GivesAs k c rule (Stop r o) → r ≡ rule
+own_rule : (k : Kind) (c : Client) (rule r : Naptr) (o : Outcome) → Yields k c rule (Stop r o) → r ≡ rule
 own_rule kind.Step c rule r o g = absurd g
 own_rule kind.TerminalUri c rule r (Uri xs) g = g.0
 own_rule kind.TerminalUri c rule r (Target m n) g = absurd g
@@ -130,7 +131,7 @@ pub one_rank_of : (c : Client) (o : Offer) (r s : ℕ) (rule : Naptr) (x y : Out
     → IsEdgeOf c o r (Stop rule x) → IsEdgeOf c o s (Stop rule y) → r ≡ s
 one_rank_of c (offer.Rules rules) r s rule x y (xs, a, p, g, is) (ys, b, q, h, js) =
     let lists : xs ≡ ys = one_chosen c rules xs ys p q in
-    let same : a ≡ b = sym (own_rule (c.kind a.flags) c a rule x is) ∙ own_rule (c.kind b.flags) c b rule y js in
+    let same : a ≡ b = sym (own_rule (c.kind a.flags) c a rule x is.yields) ∙ own_rule (c.kind b.flags) c b rule y js.yields in
     rising_once ys r s a b q.rising (subst (λ v. slice_get v r ≡ Some a) lists g) h same
 one_rank_of c (offer.Alias target) r s rule x y a b = let e : Stop rule x ≡ Step (folded_labels target) = a.1 in cc
 one_rank_of c offer.Unserved r s rule x y a b = absurd a

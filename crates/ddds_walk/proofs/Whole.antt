@@ -1,57 +1,65 @@
 -- A whole walk, from its turns; and what its one record says.
-use Rattle.std.proofs.Common.{◌≡◌, ℕ, ◌+◌, ◌≤◌, List, [], ◌∷◌, length, refl, sym, ◌∙◌, ap, subst, inl, inr, arith}
-use Rattle.std.specs.Prelude.{Contains, Option, Some, None, Result, Ok, Err, OnOk}
+use Rattle.std.proofs.Common.{◌≡◌, ℕ, zero, suc, ◌+◌, ◌≤◌, List, [], ◌∷◌, length, refl, sym, ◌∙◌, ap, subst, inl, inr, arith}
+use Rattle.std.specs.Prelude.{Contains, slice_get, Option, Some, None, Result, Ok, Err, OnOk, IsErrAnd}
 use Rattle.enum_base.specs.Causes.{Rose}
+use Rattle.enum_base.specs.Outside.{WhereTold}
 use Rattle.dns_name.specs.Name.{folded_labels}
 use Rattle.naptr_data.specs.Laws.{ZonesMakeOneOffer}
+use Rattle.naptr_data.specs.Sources.{SourceState}
 use Rattle.naptr_data.specs.Zones.{Labels, Zone, rules_and_aliases}
+use Rattle.naptr_data.specs.declared.rule.Naptr.{Naptr}
 use Rattle.subst_expr.specs.Laws.{OneOutput}
-use Rattle.ddds_walk.specs.Asking.{WhereTold, more, NeedsMore, IsWhole, AsksAtMost, FetchesEnough, FetchesMissing, IsLimit}
+use Rattle.ddds_walk.specs.Asking.{more, NeedsMore, IsWhole, AsksAtMost, FetchesEnough, FetchesMissing, IsLimit}
 use Rattle.ddds_walk.specs.Graph.{graph_of}
 use Rattle.ddds_walk.specs.Kept.{HasKept}
 use Rattle.ddds_walk.specs.Report.{AreSomeNeeded, AreNeeded}
 use Rattle.ddds_walk.specs.Rules.{Client}
-use Rattle.ddds_walk.specs.Turns.{Tally, Serves, IsKept, HasTurned, IsGoing, HasWalked}
-use Rattle.ddds_walk.specs.declared.edge.Edge.TheVariants.{Step}
+use Rattle.ddds_walk.specs.Turns.{Serves, HasTurned, IsGoing, HasWalked}
+use Rattle.ddds_walk.specs.declared.edge.Edge.TheVariants.{Step, Stop}
 use Rattle.ddds_walk.specs.declared.fault.WalkFault.{WalkFault}
 use Rattle.ddds_walk.specs.declared.fault.WalkFault.TheVariants.{Limit, Trouble, Memory}
-use Rattle.ddds_walk.specs.declared.lists.LoopPath.{LoopPath}
-use Rattle.ddds_walk.specs.declared.lists.Report.{Report}
-use Rattle.ddds_walk.specs.declared.lists.Report.TheVariants as report
-use Rattle.ddds_walk.specs.declared.turn.Turn.{Turn}
-use Rattle.ddds_walk.specs.declared.turn.Turn.TheVariants.{On, Done, Back}
-use Rattle.ddds_walk.specs.declared.turn.Walk.{Walk}
+use Rattle.ddds_walk.specs.declared.report.LoopPath.{LoopPath}
+use Rattle.ddds_walk.specs.declared.report.Outcome.{Outcome}
+use Rattle.ddds_walk.specs.declared.report.Report.{Report}
+use Rattle.ddds_walk.specs.declared.report.Report.TheVariants as report
+use Rattle.ddds_walk.specs.declared.walker.Turn.{Turn}
+use Rattle.ddds_walk.specs.declared.walker.Turn.TheVariants.{On, Done, Back}
+use Rattle.ddds_walk.specs.declared.walker.Walker.{Walker}
 use Rattle.ddds_walk.proofs.Entering.{key_folds}
 use Rattle.ddds_walk.proofs.Kept.{kept_start, kept_enough, kept_missing, past_limit}
 use Rattle.ddds_walk.proofs.StateMore.{state_start}
 
 -- a walk at the root
-abbrev pub at_root : Labels → Walk
+abbrev pub at_root : Labels → Walker
 at_root key = record { asked = []; ends = []; below = []; top = record { domain = None; edges = Step key ∷ []; rank = 0 } }
 
-pub going_start : ZonesMakeOneOffer → OneOutput → (c : Client) (key : Labels) (limit : ℕ) (t : Tally)
+pub going_start : ZonesMakeOneOffer → OneOutput → (c : Client) (key : Labels) (limit : ℕ) (t : SourceState)
     → IsGoing c (folded_labels key) limit t t (at_root (folded_labels key))
 going_start offers outputs c key limit t = record {
   zones = refl;
   room = refl;
   lent = refl;
   later = omega arith;
-  sound = record { once = tt; few = omega arith; below = tt; top = (omega arith, omega arith, key_folds key) };
+  sound = record { once = tt; few = omega arith; below = tt; top = (omega arith, record { few = omega arith; folded = key_folds key; root = λ e. no_stop }); way = tt };
   asks = refl;
   kept = kept_start t.room t.kept t.fetched;
   told = λ zones is. state_start offers outputs c zones (folded_labels key);
 }
+  where
+    no_stop : (rank : ℕ) (rule : Naptr) (outcome : Outcome) → slice_get (Step (folded_labels key) ∷ []) rank ≡ Some (Stop rule outcome) → ⊥
+    no_stop zero rule outcome e = cc
+    no_stop (suc rank) rule outcome e = cc
 
 rose_from : (a b c : ℕ) → a ≤ b → Rose b c → Rose a c
 rose_from a b c l h = grind arith
 
-module _ (c : Client) (key : Labels) (limit : ℕ) (t u v : Tally) (Failed : Type 0) (w w' : Walk) (g : IsGoing c key limit t u w) where
-  kept_on : (result : Result Turn WalkFault) → HasTurned c limit u v Failed w w' result → IsKept result
+module _ (c : Client) (key : Labels) (limit : ℕ) (t u v : SourceState) (w w' : Walker) (g : IsGoing c key limit t u w) where
+  kept_on : (result : Result Turn WalkFault) → HasTurned c limit u v w w' result → IsWhole result
       → HasKept t.room t.kept t.fetched w'.asked v.kept v.fetched
   kept_on result h k = subst (λ r. HasKept r t.kept t.fetched w'.asked v.kept v.fetched) g.room
       (h.counts.kept k t.kept t.fetched (subst (λ r. HasKept r t.kept t.fetched w.asked u.kept u.fetched) (sym g.room) g.kept))
 
-  pub going_on : HasTurned c limit u v Failed w w' (Ok On) → IsGoing c key limit t v w'
+  pub going_on : HasTurned c limit u v w w' (Ok On) → IsGoing c key limit t v w'
   going_on h = record {
     zones = h.serves.zones ∙ g.zones;
     room = h.serves.room ∙ g.room;
@@ -64,7 +72,7 @@ module _ (c : Client) (key : Labels) (limit : ℕ) (t u v : Tally) (Failed : Typ
   }
 
   serves_on : (turn : Result Turn WalkFault) (result : Result Report WalkFault) → (result ≡ Err Trouble → turn ≡ Err Trouble)
-      → HasTurned c limit u v Failed w w' turn → Serves t v Failed result
+      → HasTurned c limit u v w w' turn → Serves t v result
   serves_on turn result same h = record {
     zones = h.serves.zones ∙ g.zones;
     room = h.serves.room ∙ g.room;
@@ -73,7 +81,7 @@ module _ (c : Client) (key : Labels) (limit : ℕ) (t u v : Tally) (Failed : Typ
     trouble = λ e. let x = h.serves.trouble (same e) in (rose_from t.troubles u.troubles v.troubles g.later x.0, x.1);
   }
 
-  pub walked_done : HasTurned c limit u v Failed w w' (Ok Done) → HasWalked c key limit t v Failed (Ok (report.Ends w'.ends))
+  pub walked_done : HasTurned c limit u v w w' (Ok Done) → HasWalked c key limit t v (Ok (report.Ends w'.ends))
   walked_done h = record {
     asked = w'.asked;
     serves = serves_on (Ok Done) (Ok (report.Ends w'.ends)) (λ e. cc) h;
@@ -85,7 +93,7 @@ module _ (c : Client) (key : Labels) (limit : ℕ) (t u v : Tally) (Failed : Typ
     told = λ zones is. let x = h.told zones key (g.zones ∙ is) (g.told zones is) in (x.0, x.1.0, x.1.1, λ n e. cc);
   }
 
-  pub walked_back : (path : LoopPath) → HasTurned c limit u v Failed w w' (Ok (Back path)) → HasWalked c key limit t v Failed (Ok (report.Loop path))
+  pub walked_back : (path : LoopPath) → HasTurned c limit u v w w' (Ok (Back path)) → HasWalked c key limit t v (Ok (report.Loop path))
   walked_back path h = record {
     asked = w'.asked;
     serves = serves_on (Ok (Back path)) (Ok (report.Loop path)) (λ e. cc) h;
@@ -97,7 +105,7 @@ module _ (c : Client) (key : Labels) (limit : ℕ) (t u v : Tally) (Failed : Typ
     told = λ zones is. let x = h.told zones key (g.zones ∙ is) (g.told zones is) in (x.0, x.1.0, x.1.1, λ n e. cc);
   }
 
-  pub walked_err : (e : WalkFault) → HasTurned c limit u v Failed w w' (Err e) → HasWalked c key limit t v Failed (Err e)
+  pub walked_err : (e : WalkFault) → HasTurned c limit u v w w' (Err e) → HasWalked c key limit t v (Err e)
   walked_err e h = record {
     asked = w'.asked;
     serves = serves_on (Err e) (Err e) troubles h;
@@ -115,31 +123,38 @@ module _ (c : Client) (key : Labels) (limit : ℕ) (t u v : Tally) (Failed : Typ
       limits : (n : ℕ) → ◌≡◌ {A = Result Report WalkFault} (Err e) (Err (Limit n)) → ◌≡◌ {A = Result Turn WalkFault} (Err e) (Err (Limit n))
       limits n f = let i : e ≡ Limit n = cc in ap Err i
 
-      whole : (e : WalkFault) → IsWhole (Err e) → IsKept {A = Turn} (Err e)
+      whole : (e : WalkFault) → IsWhole {A = Report} (Err e) → IsWhole {A = Turn} (Err e)
       whole (Limit n) x = x
       whole Trouble x = x
       whole Memory x = x
 
+module _ (c : Client) (key : Labels) (limit : ℕ) (t u v : SourceState) (w w' : Walker) (g : IsGoing c key limit t u w) where
+  -- the same of an answer that is known by what it refuses
+  pub err_by : (r : Result Report WalkFault) (e : WalkFault) → IsErrAnd r (λ x. x ≡ e) → HasTurned c limit u v w w' (Err e)
+      → HasWalked c key limit t v r
+  err_by (Ok report) e h turned = absurd h
+  err_by (Err x) e h turned = subst (λ y. HasWalked c key limit t v (Err y)) (sym h) (walked_err c key limit t u v w w' g e turned)
+
 -- the same, of a walk and a turn that are known by equations
-pub going_at : ZonesMakeOneOffer → OneOutput → (c : Client) (key : Labels) (limit : ℕ) (t : Tally) (w : Walk)
+pub going_at : ZonesMakeOneOffer → OneOutput → (c : Client) (key : Labels) (limit : ℕ) (t : SourceState) (w : Walker)
     → w ≡ at_root (folded_labels key) → IsGoing c (folded_labels key) limit t t w
 going_at offers outputs c key limit t w e =
     subst (λ v. IsGoing c (folded_labels key) limit t t v) (sym e) (going_start offers outputs c key limit t)
 
-module _ (c : Client) (key : Labels) (limit : ℕ) (t u v : Tally) (Failed : Type 0) (w w' : Walk) (g : IsGoing c key limit t u w)
-    (turn : Turn) (h : HasTurned c limit u v Failed w w' (Ok turn)) where
+module _ (c : Client) (key : Labels) (limit : ℕ) (t u v : SourceState) (w w' : Walker) (g : IsGoing c key limit t u w)
+    (turn : Turn) (h : HasTurned c limit u v w w' (Ok turn)) where
   pub going_by : turn ≡ On → IsGoing c key limit t v w'
-  going_by e = going_on c key limit t u v Failed w w' g (subst (λ x. HasTurned c limit u v Failed w w' (Ok x)) e h)
+  going_by e = going_on c key limit t u v w w' g (subst (λ x. HasTurned c limit u v w w' (Ok x)) e h)
 
-  pub done_by : turn ≡ Done → HasWalked c key limit t v Failed (Ok (report.Ends w'.ends))
-  done_by e = walked_done c key limit t u v Failed w w' g (subst (λ x. HasTurned c limit u v Failed w w' (Ok x)) e h)
+  pub done_by : turn ≡ Done → HasWalked c key limit t v (Ok (report.Ends w'.ends))
+  done_by e = walked_done c key limit t u v w w' g (subst (λ x. HasTurned c limit u v w w' (Ok x)) e h)
 
-  pub back_by : (path : LoopPath) → turn ≡ Back path → HasWalked c key limit t v Failed (Ok (report.Loop path))
-  back_by path e = walked_back c key limit t u v Failed w w' g path (subst (λ x. HasTurned c limit u v Failed w w' (Ok x)) e h)
+  pub back_by : (path : LoopPath) → turn ≡ Back path → HasWalked c key limit t v (Ok (report.Loop path))
+  back_by path e = walked_back c key limit t u v w w' g path (subst (λ x. HasTurned c limit u v w w' (Ok x)) e h)
 
 -- a walk for which memory was wanting before it began
-pub walked_nothing : (c : Client) (key : Labels) (limit : ℕ) (t : Tally) (Failed : Type 0) → HasWalked c key limit t t Failed (Err Memory)
-walked_nothing c key limit t Failed = record {
+pub walked_nothing : (c : Client) (key : Labels) (limit : ℕ) (t : SourceState) → HasWalked c key limit t t (Err Memory)
+walked_nothing c key limit t = record {
   asked = [];
   serves = record { zones = refl; room = refl; lent = refl; later = omega arith; trouble = λ e. cc };
   once = tt;
@@ -153,6 +168,11 @@ walked_nothing c key limit t Failed = record {
     none : (d : Labels) → Contains [] d → ⊥
     none d h = omega (arith, h.1)
 
+pub nothing_by : (c : Client) (key : Labels) (limit : ℕ) (t : SourceState) (r : Result Report WalkFault) → IsErrAnd r (λ x. x ≡ Memory)
+    → HasWalked c key limit t t r
+nothing_by c key limit t (Ok report) h = absurd h
+nothing_by c key limit t (Err x) h = subst (λ v. HasWalked c key limit t t (Err v)) (sym h) (walked_nothing c key limit t)
+
 where_told : (told : Option (List Zone)) (Fact : List Zone → Type 0) → ((zones : List Zone) → told ≡ Some zones → Fact zones) → WhereTold told Fact
 where_told None Fact f = tt
 where_told (Some zones) Fact f = f zones refl
@@ -162,8 +182,8 @@ ok_of (Ok x) q = q
 ok_of (Err e) q = tt
 
 -- what the public clauses of a walk say, each from its one record
-module _ (c : Client) (key : Labels) (limit : ℕ) (t u : Tally) (Failed : Type 0) (result : Result Report WalkFault)
-    (h : HasWalked c key limit t u Failed result) where
+module _ (c : Client) (key : Labels) (limit : ℕ) (t u : SourceState) (result : Result Report WalkFault)
+    (h : HasWalked c key limit t u result) where
   pub says_bound : ((c : Client) (zones : List Zone) (key : Labels) (ds : List Labels) → AreSomeNeeded (graph_of c zones) key ds
       → length ds ≤ rules_and_aliases zones + 1) → WhereTold t.zones (λ zones. OnOk result (AsksAtMost (rules_and_aliases zones + 1) t.asks u.asks))
   says_bound bound = where_told t.zones (λ zones. OnOk result (AsksAtMost (rules_and_aliases zones + 1) t.asks u.asks))

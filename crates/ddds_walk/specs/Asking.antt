@@ -1,27 +1,22 @@
 -- How often a walk asks, and when it stops short (this project's own).
-use Rattle.std.specs.Prelude.{◌≡◌, ◌↔◌, ◌⊎◌, ℕ, zero, suc, ◌+◌, ◌<◌, ◌≤◌, List, length, Contains, Option, Some, None, Result, Ok, Err, ⊤}
+use Rattle.std.specs.Prelude.{◌≡◌, ◌↔◌, ◌⊎◌, ℕ, zero, suc, ◌+◌, ◌<◌, ◌≤◌, List, length, Contains, Result, Ok, Err}
 use Rattle.enum_base.specs.Causes.{one_more}
 use Rattle.naptr_data.specs.Sources.{AreDistinct}
-use Rattle.naptr_data.specs.Zones.{Labels, Zone}
+use Rattle.naptr_data.specs.Zones.{Labels}
 use Rattle.ddds_walk.specs.Graph.{Graph}
 use Rattle.ddds_walk.specs.Report.{IsNeeded, AreSomeNeeded, AreNeeded}
 use Rattle.ddds_walk.specs.declared.fault.WalkFault.{WalkFault}
 use Rattle.ddds_walk.specs.declared.fault.WalkFault.TheVariants.{Limit, Trouble, Memory}
-use Rattle.ddds_walk.specs.declared.lists.Report.{Report}
-
--- a fact of the zones, where they are told
-abbrev pub WhereTold : Option (List Zone) → (List Zone → Type 0) → Type 0
-WhereTold None Fact = ⊤
-WhereTold (Some zones) Fact = Fact zones
+use Rattle.ddds_walk.specs.declared.report.Report.{Report}
 
 -- that many more, in a number of 64 bits, which stays at its greatest value
 abbrev pub more : ℕ → ℕ → ℕ
 more zero before = before
 more (suc n) before = one_more (more n before)
 
--- what a walk answers where it ends by itself or by its limit
-abbrev pub IsWhole : Result Report WalkFault → Type 0
-IsWhole (Ok report) = Unit {0}
+-- an answer, or the refusal at the limit: no ask failed
+abbrev pub IsWhole : {A : Type 0} → Result A WalkFault → Type 0
+IsWhole (Ok answer) = Unit {0}
 IsWhole (Err (Limit asked)) = Unit {0}
 IsWhole (Err Trouble) = ⊥
 IsWhole (Err Memory) = ⊥
@@ -53,7 +48,8 @@ AreTogether g key kept all = AreDistinct all × ((d : Labels) → Contains all d
 
 -- these are the needed domains that were not kept
 abbrev pub AreMissing : Graph Labels → Labels → List Labels → List Labels → Type 0
-AreMissing g key kept missing = AreDistinct missing × ((d : Labels) → Contains missing d ↔ (IsNeeded g key d × ¬ Contains kept d))
+AreMissing g key kept missing =
+    AreDistinct missing × ((d : Labels) → Contains missing d ↔ (IsNeeded g key d × ¬ Contains kept d))
 
 -- where there is room for all together, just the missing ones were fetched, and just these together are kept
 abbrev pub FetchesMissing : Graph Labels → Labels → ℕ → (kept kept' : List Labels) → (fetched fetched' : ℕ) → Type 0

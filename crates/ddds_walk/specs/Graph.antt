@@ -6,7 +6,7 @@ use Rattle.naptr_data.specs.declared.offer.Offer.TheVariants.{Unserved}
 use Rattle.naptr_data.specs.declared.rule.Naptr.{Naptr}
 use Rattle.ddds_walk.specs.Rules.{Client, IsEdge}
 use Rattle.ddds_walk.specs.declared.edge.Edge.TheVariants.{Step, Stop}
-use Rattle.ddds_walk.specs.declared.lists.Outcome.{Outcome}
+use Rattle.ddds_walk.specs.declared.report.Outcome.{Outcome}
 
 -- V is the type of domains
 pub record Graph (V : Type 0) : Type 1 where

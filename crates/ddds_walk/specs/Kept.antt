@@ -10,7 +10,8 @@ HasRoom room kept asked =
     (all : List Labels) × (length all ≤ room) × ((d : Labels) → Contains kept d ⊎ Contains asked d → Contains all d)
 
 -- what a source keeps and has fetched, where it was asked for these names, one after another, and answered each
-pub record HasKept (room : ℕ) (kept : List Labels) (fetched : ℕ) (asked kept' : List Labels) (fetched' : ℕ) : Type 0 where
+pub record HasKept (room : ℕ) (kept : List Labels) (fetched : ℕ) (asked kept' : List Labels)
+    (fetched' : ℕ) : Type 0 where
   -- the asked names that it kept when they were asked, and the others, which were fetched
   pub hits : List Labels
   pub misses : List Labels

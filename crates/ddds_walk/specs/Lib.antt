@@ -1,4 +1,5 @@
 pub mod Asking
+pub mod Clients
 pub mod Graph
 pub mod Kept
 pub mod Order

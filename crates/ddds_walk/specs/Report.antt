@@ -9,11 +9,11 @@ use Rattle.ddds_walk.specs.Graph.{Graph, graph_of, Leads, Passes}
 use Rattle.ddds_walk.specs.Order.{Less, AreRising}
 use Rattle.ddds_walk.specs.Rules.{Client, IsEdge}
 use Rattle.ddds_walk.specs.declared.edge.Edge.TheVariants.{Stop}
-use Rattle.ddds_walk.specs.declared.lists.End.{End}
-use Rattle.ddds_walk.specs.declared.lists.Outcome.{Outcome}
-use Rattle.ddds_walk.specs.declared.lists.Outcome.TheVariants.{Unserved}
-use Rattle.ddds_walk.specs.declared.lists.Report.{Report}
-use Rattle.ddds_walk.specs.declared.lists.Report.TheVariants.{Ends, Loop}
+use Rattle.ddds_walk.specs.declared.report.End.{End}
+use Rattle.ddds_walk.specs.declared.report.Outcome.{Outcome}
+use Rattle.ddds_walk.specs.declared.report.Outcome.TheVariants.{Unserved}
+use Rattle.ddds_walk.specs.declared.report.Report.{Report}
+use Rattle.ddds_walk.specs.declared.report.Report.TheVariants.{Ends, Loop}
 
 -- a loop: a derivation whose last domain is one of its earlier ones, which are distinct
 pub record IsLoop {V : Type 0} (g : Graph V) (key : V) (ranks : List ℕ) (earlier : List V) (last : V) : Type 0 where
@@ -23,7 +23,8 @@ pub record IsLoop {V : Type 0} (g : Graph V) (key : V) (ranks : List ℕ) (earli
   pub others : AreDistinct earlier
 
 -- the least loop: no loop comes before it
-pub record IsLeastLoop {V : Type 0} (g : Graph V) (key : V) (ranks : List ℕ) (earlier : List V) (last : V) : Type 0 where
+pub record IsLeastLoop {V : Type 0} (g : Graph V) (key : V) (ranks : List ℕ) (earlier : List V)
+    (last : V) : Type 0 where
   pub loop : IsLoop g key ranks earlier last
   pub least : (ls : List ℕ) (ds : List V) (d : V) → IsLoop g key ls ds d → Less ls ranks → ⊥
 

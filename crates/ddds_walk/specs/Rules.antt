@@ -9,27 +9,28 @@ use Rattle.naptr_data.specs.Zones.{Labels, Zone, IsOffer, IsRising}
 use Rattle.naptr_data.specs.declared.offer.Offer.{Offer}
 use Rattle.naptr_data.specs.declared.offer.Offer.TheVariants as offer
 use Rattle.naptr_data.specs.declared.rule.Naptr.{Naptr}
+use Rattle.service_field.specs.Applications.{Meaning}
 use Rattle.service_field.specs.declared.kind.Kind.{Kind}
 use Rattle.service_field.specs.declared.kind.Kind.TheVariants as kind
 use Rattle.subst_expr.specs.Output.{IsOutput}
 use Rattle.ddds_walk.specs.declared.edge.Edge.{Edge}
 use Rattle.ddds_walk.specs.declared.edge.Edge.TheVariants.{Step, Stop}
-use Rattle.ddds_walk.specs.declared.lists.Outcome.TheVariants.{Uri, Target}
+use Rattle.ddds_walk.specs.declared.report.Outcome.TheVariants.{Uri, Target}
 
--- who asks: what flags mean, which services serve, whether a rule that is not terminal may give its next domain by REGEXP,
--- and the original string, to which every expression is applied (RFC 3402, section 3)
+-- who asks: what flags mean, which services serve, whether a rule that is not terminal may give its next domain by
+-- REGEXP, and the original string, to which every expression is applied (RFC 3402, section 3)
 pub record Client : Type 0 where
   pub kind : List ℕ → Kind
   pub serves : List ℕ → Bool
   pub steps_by_regexp : Bool
   pub string : List ℕ
 
--- the client of an application, by what it tells, with the wanted services and the original string
-abbrev pub client_of : {P : Type 0} → (P → List ℕ → Kind) → (P → Option (List ℕ) → List ℕ → Bool) → (P → Bool) → P → Option (List ℕ) → List ℕ → Client
-client_of kinds serves steps app wanted string = record {
-  kind = λ flags. kinds app flags;
-  serves = λ services. serves app wanted services;
-  steps_by_regexp = steps app;
+-- the client of an application, by what this makes of flags and services, with the wanted services and the string
+abbrev pub client_of : Meaning → Option (List ℕ) → List ℕ → Client
+client_of meaning wanted string = record {
+  kind = meaning.kind;
+  serves = λ services. meaning.serves wanted services;
+  steps_by_regexp = meaning.steps_by_regexp;
   string = string;
 }
 
@@ -70,17 +71,35 @@ GivesName rule string domain =
     (bytes : List ℕ) × (labels : Labels) × HasOutput rule string bytes × (name_of bytes (Some []) ≡ Ok labels)
     × (domain ≡ folded_labels labels)
 
--- what a rule gives under what its flags mean: the next domain, a URI, or a domain with a letter
-abbrev pub GivesAs : Kind → Client → Naptr → Edge → Type 0
-GivesAs kind.Step c rule (Step domain) =
-    ((c.serves rule.services ≡ true) ⊎ (rule.services ≡ []))
-    × ((HasReplacement rule × (domain ≡ folded_labels rule.replacement))
-    ⊎ ((c.steps_by_regexp ≡ true) × HasRegexp rule × GivesName rule c.string domain))
-GivesAs kind.TerminalUri c rule (Stop r (Uri bytes)) =
-    (r ≡ rule) × (c.serves rule.services ≡ true) × HasRegexp rule × HasOutput rule c.string bytes × IsUri bytes
-GivesAs (kind.TerminalName l) c rule (Stop r (Target m name)) =
-    (r ≡ rule) × (c.serves rule.services ≡ true) × HasReplacement rule × (m ≡ l) × (name ≡ rule.replacement)
-GivesAs k c rule edge = ⊥
+-- which of the two a rule has by the kind of its flags (RFC 3403, 4.1); one that is not terminal has REGEXP only where the
+-- application allows it
+abbrev pub HasFields : Kind → (by_regexp : Bool) → Naptr → Type 0
+HasFields kind.Step by_regexp rule = HasReplacement rule ⊎ ((by_regexp ≡ true) × HasRegexp rule)
+HasFields kind.TerminalUri by_regexp rule = HasRegexp rule
+HasFields (kind.TerminalName letter) by_regexp rule = HasReplacement rule
+HasFields kind.Unknown by_regexp rule = ⊥
+
+-- its services serve what is wanted; a rule that is not terminal may have none
+abbrev pub HasServices : Kind → Client → Naptr → Type 0
+HasServices kind.Step c rule = (c.serves rule.services ≡ true) ⊎ (rule.services ≡ [])
+HasServices kind.TerminalUri c rule = c.serves rule.services ≡ true
+HasServices (kind.TerminalName letter) c rule = c.serves rule.services ≡ true
+HasServices kind.Unknown c rule = ⊥
+
+-- what its field gives: the next domain, a URI, or a domain with a letter
+abbrev pub Yields : Kind → Client → Naptr → Edge → Type 0
+Yields kind.Step c rule (Step domain) =
+    (HasReplacement rule × (domain ≡ folded_labels rule.replacement))
+    ⊎ (HasRegexp rule × GivesName rule c.string domain)
+Yields kind.TerminalUri c rule (Stop r (Uri bytes)) = (r ≡ rule) × HasOutput rule c.string bytes × IsUri bytes
+Yields (kind.TerminalName l) c rule (Stop r (Target m name)) = (r ≡ rule) × (m ≡ l) × (name ≡ rule.replacement)
+Yields k c rule edge = ⊥
+
+-- what a rule gives by the kind of its flags
+pub record GivesAs (k : Kind) (c : Client) (rule : Naptr) (edge : Edge) : Type 0 where
+  pub fields : HasFields k c.steps_by_regexp rule
+  pub services : HasServices k c rule
+  pub yields : Yields k c rule edge
 
 -- what a rule gives
 abbrev pub Gives : Client → Naptr → Edge → Type 0
@@ -100,7 +119,8 @@ pub record AreFollowed (c : Client) (rules chosen : List Naptr) : Type 0 where
 -- the edge of that rank out of a domain with this offer; an alias is one edge, of rank 0
 abbrev pub IsEdgeOf : Client → Offer → ℕ → Edge → Type 0
 IsEdgeOf c (offer.Rules rules) rank edge =
-    (chosen : List Naptr) × (rule : Naptr) × AreFollowed c rules chosen × (slice_get chosen rank ≡ Some rule) × Gives c rule edge
+    (chosen : List Naptr) × (rule : Naptr) × AreFollowed c rules chosen
+    × (slice_get chosen rank ≡ Some rule) × Gives c rule edge
 IsEdgeOf c (offer.Alias target) rank edge = (rank ≡ 0) × (edge ≡ Step (folded_labels target))
 IsEdgeOf c offer.Unserved rank edge = ⊥
 

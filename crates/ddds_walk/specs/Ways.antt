@@ -1,5 +1,5 @@
--- Words for the state of a walk, for the functions below `walk`. The walk begins at a root, from which one edge leads to
--- each key; so a derivation from a key is one from the root without its first rank.
+-- Words for the state of a walk, for the functions below `walk`. The walk begins at a root, from which one edge leads
+-- to each key; so a derivation from a key is one from the root without its first rank.
 use Rattle.std.specs.Prelude.{◌≡◌, ◌↔◌, ◌⊎◌, ℕ, List, [], ◌∷◌, ◌++◌, map, slice_get, Contains, Option, Some, None}
 use Rattle.naptr_data.specs.Laws.{ZonesMakeOneOffer}
 use Rattle.naptr_data.specs.Sources.{AreDistinct}
@@ -13,7 +13,7 @@ use Rattle.ddds_walk.specs.Rules.{Client, IsEdge}
 use Rattle.ddds_walk.specs.declared.edge.Edge.{Edge}
 use Rattle.ddds_walk.specs.declared.edge.Edge.TheVariants.{Step}
 use Rattle.ddds_walk.specs.declared.frame.Frame.{Frame}
-use Rattle.ddds_walk.specs.declared.lists.End.{End}
+use Rattle.ddds_walk.specs.declared.report.End.{End}
 
 -- an end by the domain and the rank of its terminal rule, or by the domain that nobody serves
 pub data Mark (V : Type 0) : Type 0 where
@@ -95,7 +95,8 @@ tree_of c zones keys = rooted (graph_of c zones) keys
 
 -- the edges that are told are those of the domain, or of the root
 abbrev pub Tells : Client → List Zone → List Labels → Option Labels → List Edge → Type 0
-Tells c zones keys None edges = (r : ℕ) (e : Edge) → (slice_get edges r ≡ Some e) ↔ ((k : Labels) × (slice_get keys r ≡ Some k) × (e ≡ Step k))
+Tells c zones keys None edges =
+    (r : ℕ) (e : Edge) → (slice_get edges r ≡ Some e) ↔ ((k : Labels) × (slice_get keys r ≡ Some k) × (e ≡ Step k))
 Tells c zones keys (Some d) edges = (r : ℕ) (e : Edge) → (slice_get edges r ≡ Some e) ↔ IsEdge c zones d r e
 
 abbrev pub path_of : List Frame → List ℕ
@@ -105,7 +106,8 @@ abbrev pub domains_of : List Frame → List (Option Labels)
 domains_of frames = map (λ f. f.domain) frames
 
 -- a frame above others: the path leads to its domain, which is none of theirs, and its edges are those of the domain
-pub record IsFrame (c : Client) (zones : List Zone) (keys : List Labels) (below : List Frame) (frame : Frame) : Type 0 where
+pub record IsFrame (c : Client) (zones : List Zone) (keys : List Labels) (below : List Frame)
+    (frame : Frame) : Type 0 where
   pub leads : Leads (tree_of c zones keys) None (path_of below) frame.domain
   pub passes : Passes (tree_of c zones keys) None (path_of below) (domains_of below)
   pub tells : Tells c zones keys frame.domain frame.edges
@@ -138,5 +140,6 @@ pub record IsState (c : Client) (zones : List Zone) (key : Labels) (asked : List
   pub fronts : (a b : List Frame) (x : Frame) → below ≡ a ++ x ∷ b → IsFrame c zones (key ∷ []) a x
   pub ends_are : (e : End) → Contains ends e → IsEnd c zones key e
   -- asked are those that are finished or on the path, and each of them is needed
-  pub met : (d : Labels) → Contains asked d ↔ (Contains done (Some d) ⊎ Contains (domains_of below ++ top.domain ∷ []) (Some d))
+  pub met : (d : Labels) → Contains asked d
+      ↔ (Contains done (Some d) ⊎ Contains (domains_of below ++ top.domain ∷ []) (Some d))
   pub needed : (d : Labels) → Contains asked d → IsNeeded (graph_of c zones) key d

@@ -4,7 +4,7 @@ ghost use Rattle.naptr_data.specs.Zones.{Labels, Zone, rules_and_aliases};
 ghost use Rattle.ddds_walk.specs.Graph.{graph_of, Leads};
 ghost use Rattle.ddds_walk.specs.Rules.{Client};
 ghost use Rattle.ddds_walk.specs.Report.{IsReport, IsLeastLoop, HasNoLoop, IsNeeded, AreSomeNeeded, AreNeeded};
-ghost use Rattle.ddds_walk.specs.declared.lists.End.{End};
+ghost use Rattle.ddds_walk.specs.declared.report.End.{End};
 
 use naptr_data::one_offer;
 use subst_expr::laws::one_output;
@@ -30,8 +30,8 @@ pub fn one_loop()
 
 /// Where there is no loop, the needed domains are all to which some derivation leads.
 pub fn all_needed()
-    ensures { (c : Client) (zones : List Zone) (key : Labels) (rs : List ℕ) (d : Labels) → HasNoLoop (graph_of c zones) key →
-        Leads (graph_of c zones) key rs d → IsNeeded (graph_of c zones) key d }
+    ensures { (c : Client) (zones : List Zone) (key : Labels) (rs : List ℕ) (d : Labels) →
+        HasNoLoop (graph_of c zones) key → Leads (graph_of c zones) key rs d → IsNeeded (graph_of c zones) key d }
 {}
 
 /// The domains on the least loop are needed, though no derivation round it is.
@@ -45,8 +45,8 @@ pub fn loop_needed()
 
 /// The number of needed domains does not depend on how they are listed.
 pub fn needed_count()
-    ensures { (c : Client) (zones : List Zone) (key : Labels) (ds es : List Labels) → AreNeeded (graph_of c zones) key ds →
-        AreNeeded (graph_of c zones) key es → length ds ≡ length es }
+    ensures { (c : Client) (zones : List Zone) (key : Labels) (ds es : List Labels) →
+        AreNeeded (graph_of c zones) key ds → AreNeeded (graph_of c zones) key es → length ds ≡ length es }
 {}
 
 /// At most one domain more is needed than the zones hold rules and aliases.

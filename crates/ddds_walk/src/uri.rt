@@ -4,7 +4,7 @@ ghost use Rattle.std.specs.Char.{is_ascii_alphabetic};
 ghost use Rattle.std.specs.List.{AllPass};
 ghost use Rattle.ddds_walk.specs.Rules.{IsUri, is_scheme_byte, is_visible};
 
-/// Whether the bytes are a URI: a scheme, a colon and at least one byte, all visible (RFC 3986, section 3).
+// Whether the bytes are a URI: a scheme, a colon and at least one byte, all visible (RFC 3986, section 3).
 pub(crate) fn is_uri(bytes: &[u8]) -> bool
     ensures { IsTrue result ↔ IsUri bytes.now }
 {

@@ -1,0 +1,386 @@
+//! A walk under way.
+ghost use Rattle.std.specs.Prelude.{◌≡◌, ◌≢◌, ◌↔◌, ◌⊎◌, ◌≤◌, ◌<◌, ◌+◌, [], ◌∷◌, ◌++◌, length, slice_get, drop, filter_map, option_to_list, Contains, IsTrue, Some, None, IfOk, OnOk};
+ghost use Rattle.dns_name.specs.Name.{folded_labels};
+ghost use Rattle.naptr_data.specs.Sources.{AreDistinct, HasFewRules};
+ghost use Rattle.naptr_data.specs.declared.offer.Offer.TheVariants as Offer;
+ghost use Rattle.ddds_walk.specs.Clients.{meant};
+ghost use Rattle.ddds_walk.specs.Turns.{IsSound, IsAtStep, IsAtStop, IsOnTheWay, HasAsked, HasMoved, HasTurned, IsNextEnd};
+ghost use Rattle.ddds_walk.specs.Turns.{Notes, Opens, Sees, derivation_of};
+ghost use Rattle.ddds_walk.specs.Ways.{path_of, domains_of};
+ghost use Rattle.ddds_walk.specs.declared.edge.Edge.TheVariants.{Step};
+ghost use Rattle.ddds_walk.specs.declared.walker.Turn.TheVariants as Turn;
+
+use crate::client::Client;
+use crate::domain_edges::edges_of;
+use crate::edge::{Edge, Edges};
+use crate::fault::WalkFault;
+use crate::frame::{Frame, Frames};
+use crate::report::{End, Ends, LoopPath, Outcome};
+use dns_name::{Name, Names};
+use enum_base::{MemoryFault, Ranks};
+use naptr_data::{Offer, RuleSource, SourceFault};
+use service_field::DddsApp;
+use std::alloc::Global;
+use std::mem::replace;
+
+// A walk under way. It opens each domain once, and follows the edges of the topmost frame in their order.
+#[derive(Drop)]
+pub(crate) struct Walker {
+    // The folded domains that were asked for, in this order.
+    pub(crate) asked: Names,
+    // The ends that were found.
+    pub(crate) ends: Ends,
+    // The frames on the way to the topmost one, the root first.
+    pub(crate) below: Frames,
+    pub(crate) top: Frame,
+}
+
+// What one turn finds.
+#[derive(Drop)]
+pub(crate) enum Turn {
+    // The walk goes on.
+    On,
+    // All edges were followed.
+    Done,
+    // The next domain is on the way already.
+    Back(LoopPath),
+}
+
+// The edge that is followed next.
+#[derive(Clone, Copy, Debug)]
+pub(crate) enum Next {
+    // All edges of the topmost frame were followed.
+    None,
+    // It leads to this domain.
+    Step(Name),
+    // It is that of a terminal rule.
+    Stop,
+}
+
+impl Walker {
+    // A walk that stands at the root, from which one edge leads to the key.
+    pub(crate) fn start(alloc: Global, key: &Name) -> Result<Walker, MemoryFault>
+        ensures { IfOk result (λ w. w ≡ record {
+          asked = [];
+          ends = [];
+          below = [];
+          top = record { domain = None; edges = Step (folded_labels key.now) ∷ []; rank = 0 };
+        }) }
+    {
+        let mut edges = Edges::new(alloc);
+        edges.push(Edge::Step(key.fold()))?;
+        Ok(Walker {
+            asked: Names::new(alloc),
+            ends: Ends::new(alloc),
+            below: Frames::new(alloc),
+            top: Frame {
+                domain: None,
+                edges,
+                rank: 0,
+            },
+        })
+    }
+
+    // Follows the next edge, or leaves the topmost frame.
+    pub(crate) fn turn<P: DddsApp, S: RuleSource>(
+        &mut self,
+        alloc: Global,
+        client: &Client<'_, P>,
+        source: &mut S,
+        limit: u32,
+    ) -> Result<Turn, WalkFault>
+        requires sound { IsSound limit self.old }
+        ensures turned { HasTurned (meant P.meaning client.now) limit (S.state source.old) (S.state source.new)
+            self.old self.new result }
+    {
+        match self.next_edge() {
+            Next::None => Ok(self.leave(limit)),
+            Next::Step(next) => self.follow(alloc, client, source, limit, &next),
+            Next::Stop => {
+                self.stop(alloc, limit)?;
+                Ok(Turn::On)
+            }
+        }
+    }
+
+    // The edge that is followed next.
+    fn next_edge(&self) -> Next
+        ensures { Sees self.now result }
+    {
+        match self.top.edges.as_slice().get(self.top.rank as usize) {
+            None => Next::None,
+            Some(Edge::Step(domain)) => Next::Step(*domain),
+            Some(Edge::Stop(_, _)) => Next::Stop,
+        }
+    }
+
+    // Goes on after the edge that was followed.
+    fn advance(&mut self)
+        requires { self.old.top.rank < 65_536 }
+        ensures { self.new ≡ record self.old { top = record self.old.top { rank = self.old.top.rank + 1 } } }
+    {
+        self.top.rank += 1;
+    }
+
+    // Leaves the topmost frame, whose edges were all followed.
+    fn leave(&mut self, limit: u32) -> Turn
+        requires sound { IsSound limit self.old }
+        requires all { slice_get self.old.top.edges self.old.top.rank ≡ None }
+        ensures moved { HasMoved limit self.old self.new result }
+    {
+        let Some(frame) = self.below.pop() else {
+            return Turn::Done;
+        };
+        self.top = frame;
+        self.top.rank += 1;
+        Turn::On
+    }
+
+    // Notes the end of a terminal rule. The root has none.
+    fn stop(&mut self, alloc: Global, limit: u32) -> Result<(), MemoryFault>
+        requires sound { IsSound limit self.old }
+        requires domain { self.old.top.domain ≢ None }
+        requires here { IsAtStop self.old }
+        ensures asked { self.new.asked ≡ self.old.asked }
+        ensures moved { IfOk result (λ _. HasMoved limit self.old self.new Turn.On) }
+    {
+        let end = self.next_end(alloc)?;
+        self.ends.push(end)?;
+        self.advance();
+        Ok(())
+    }
+
+    // The end of the terminal rule that is followed next.
+    fn next_end(&self, alloc: Global) -> Result<End, MemoryFault>
+        requires domain { self.now.top.domain ≢ None }
+        requires here { IsAtStop self.now }
+        ensures { IfOk result (IsNextEnd self.now) }
+    {
+        let Some(domain) = self.top.domain else {
+            unreachable!();
+        };
+        match self.top.edges.as_slice().get(self.top.rank as usize) {
+            Some(Edge::Stop(rule, outcome)) => Ok(End {
+                ranks: self.derivation(alloc)?,
+                domain,
+                rule: Some(*rule),
+                outcome: outcome.copy(alloc)?,
+            }),
+            _ => unreachable!(),
+        }
+    }
+
+    // Follows an edge to another domain.
+    fn follow<P: DddsApp, S: RuleSource>(
+        &mut self,
+        alloc: Global,
+        client: &Client<'_, P>,
+        source: &mut S,
+        limit: u32,
+        next: &Name,
+    ) -> Result<Turn, WalkFault>
+        requires sound { IsSound limit self.old }
+        requires here { IsAtStep self.old next.now }
+        ensures turned { HasTurned (meant P.meaning client.now) limit (S.state source.old) (S.state source.new)
+            self.old self.new result }
+    {
+        if self.is_on_the_way(next) {
+            let path = self.back(alloc, limit, next)?;
+            return Ok(Turn::Back(path));
+        }
+        if self.has_asked(next) {
+            self.skip(limit, next);
+            return Ok(Turn::On);
+        }
+        self.enter(alloc, client, source, limit, next)
+    }
+
+    // The loop that an edge to a domain on the way closes.
+    fn back(&self, alloc: Global, limit: u32, next: &Name) -> Result<LoopPath, MemoryFault>
+        requires sound { IsSound limit self.now }
+        requires here { IsAtStep self.now next.now }
+        requires on { IsOnTheWay self.now next.now }
+        ensures moved { IfOk result (λ path. HasMoved limit self.now self.now (Turn.Back path)) }
+    {
+        let ranks = self.derivation(alloc)?;
+        let domains = self.domains(alloc, next)?;
+        Ok(LoopPath { ranks, domains })
+    }
+
+    // Passes over an edge to a domain that was asked for, and is not on the way.
+    fn skip(&mut self, limit: u32, next: &Name)
+        requires sound { IsSound limit self.old }
+        requires here { IsAtStep self.old next.now }
+        requires asked { Contains self.old.asked next.now }
+        requires away { ¬ IsOnTheWay self.old next.now }
+        ensures moved { HasMoved limit self.old self.new Turn.On }
+    {
+        self.advance();
+    }
+
+    // Asks for the domain of an edge, and goes down to it.
+    fn enter<P: DddsApp, S: RuleSource>(
+        &mut self,
+        alloc: Global,
+        client: &Client<'_, P>,
+        source: &mut S,
+        limit: u32,
+        next: &Name,
+    ) -> Result<Turn, WalkFault>
+        requires sound { IsSound limit self.old }
+        requires here { IsAtStep self.old next.now }
+        requires new { ¬ Contains self.old.asked next.now }
+        requires away { ¬ IsOnTheWay self.old next.now }
+        ensures turned { HasTurned (meant P.meaning client.now) limit (S.state source.old) (S.state source.new)
+            self.old self.new result }
+    {
+        let offer = ask(alloc, &mut self.asked, source, limit, next)?;
+        self.open(alloc, client, next, &offer)?;
+        Ok(Turn::On)
+    }
+
+    // Goes down to a domain that was asked for.
+    fn open<P: DddsApp>(
+        &mut self,
+        alloc: Global,
+        client: &Client<'_, P>,
+        next: &Name,
+        offer: &Offer,
+    ) -> Result<(), MemoryFault>
+        requires few { HasFewRules offer.now }
+        ensures asked { self.new.asked ≡ self.old.asked }
+        ensures opens { OnOk result (Opens (meant P.meaning client.now) next.now offer.now self.old self.new) }
+    {
+        self.note(alloc, next, offer)?;
+        let edges = edges_of(alloc, client, offer)?;
+        let frame = Frame {
+            domain: Some(*next),
+            edges,
+            rank: 0,
+        };
+        self.below.push(replace(&mut self.top, frame))
+    }
+
+    // Notes an end where nobody serves the domain.
+    fn note(&mut self, alloc: Global, next: &Name, offer: &Offer) -> Result<(), MemoryFault>
+        ensures asked { self.new.asked ≡ self.old.asked }
+        ensures notes { OnOk result (Notes next.now offer.now self.old self.new) }
+    {
+        if !is_unserved(offer) {
+            return Ok(());
+        }
+        let ranks = self.derivation(alloc)?;
+        self.ends.push(End {
+            ranks,
+            domain: *next,
+            rule: None,
+            outcome: Outcome::Unserved,
+        })
+    }
+
+    // The derivation to the edge that is followed next, from the key on.
+    fn derivation(&self, alloc: Global) -> Result<Ranks, MemoryFault>
+        ensures { IfOk result (λ ranks. ranks ≡ derivation_of self.now) }
+    {
+        let mut ranks = Ranks::new(alloc);
+        let Some((_, below)) = self.below.as_slice().split_first() else {
+            return Ok(ranks);
+        };
+        for frame in below {
+            ranks.push(frame.rank)?;
+        }
+        ranks.push(self.top.rank)?;
+        Ok(ranks)
+    }
+
+    // The domains on the way, and this one after them.
+    fn domains(&self, alloc: Global, last: &Name) -> Result<Names, MemoryFault>
+        ensures { IfOk result (λ names. names ≡
+            filter_map (λ d. d) (domains_of self.now.below ++ self.now.top.domain ∷ []) ++ last.now ∷ []) }
+    {
+        let mut names = Names::new(alloc);
+        for frame in self.below.as_slice() {
+            push_domain(&mut names, frame.domain)?;
+        }
+        push_domain(&mut names, self.top.domain)?;
+        names.push(*last)?;
+        Ok(names)
+    }
+
+    // Whether the domain is on the way to the topmost frame, or its domain.
+    fn is_on_the_way(&self, domain: &Name) -> bool
+        ensures { IsTrue result ↔ IsOnTheWay self.now domain.now }
+    {
+        is_among(self.below.as_slice(), domain) || is_domain(self.top.domain, *domain)
+    }
+
+    // Whether the domain was asked for.
+    fn has_asked(&self, domain: &Name) -> bool
+        ensures { IsTrue result ↔ Contains self.now.asked domain.now }
+    {
+        self.asked
+            .as_slice()
+            .iter()
+            .any(|name| is_domain(Some(*name), *domain))
+    }
+}
+
+// Asks for a domain, unless so many were asked as the limit allows.
+fn ask<S: RuleSource>(
+    alloc: Global,
+    asked: &mut Names,
+    source: &mut S,
+    limit: u32,
+    next: &Name,
+) -> Result<Offer, WalkFault>
+    requires once { AreDistinct asked.old }
+    requires few { length asked.old ≤ limit }
+    requires new { ¬ Contains asked.old next.now }
+    requires folded { folded_labels next.now ≡ next.now }
+    ensures asked { HasAsked limit (S.state source.old) (S.state source.new) asked.old asked.new next.now result }
+{
+    if asked.as_slice().len() >= limit as usize {
+        return Err(WalkFault::Limit { asked: limit });
+    }
+    asked.push(*next)?;
+    match source.offer(alloc, next) {
+        Ok(offer) => Ok(offer),
+        Err(SourceFault::Trouble) => Err(WalkFault::Trouble),
+        Err(SourceFault::Memory) => Err(WalkFault::Memory),
+    }
+}
+
+fn is_unserved(offer: &Offer) -> bool
+    ensures { IsTrue result ↔ (offer.now ≡ Offer.Unserved) }
+{
+    matches!(offer, Offer::Unserved)
+}
+
+fn push_domain(names: &mut Names, domain: Option<Name>) -> Result<(), MemoryFault>
+    ensures { OnOk result (names.new ≡ names.old ++ option_to_list domain) }
+{
+    match domain {
+        Some(name) => names.push(name),
+        None => Ok(()),
+    }
+}
+
+fn is_among(frames: &[Frame], domain: &Name) -> bool
+    ensures { IsTrue result ↔ Contains (domains_of frames.now) (Some domain.now) }
+{
+    for frame in frames {
+        if is_domain(frame.domain, *domain) {
+            return true;
+        }
+    }
+    false
+}
+
+fn is_domain(place: Option<Name>, domain: Name) -> bool
+    ensures { IsTrue result ↔ (place ≡ Some domain) }
+{
+    match place {
+        Some(name) => name == domain,
+        None => false,
+    }
+}
