@@ -1,26 +1,26 @@
-pub mod WordLemmas
-pub mod OneAnswer
-pub mod AskLemmas
-pub mod Resolving
-pub mod RunLemmas
-pub mod ToldRuns
-pub mod FileLemmas
-pub mod PrintLemmas
-pub mod Walks
-pub mod Written
-pub mod Loaded
-pub mod PlainParts
-pub mod PlainNumbers
-pub mod PlainNames
-pub mod PlainQuoted
-pub mod PlainData
-pub mod PlainLines
-pub mod PlainLoops
-pub mod PlainPairs
-pub mod PlainTame
-pub mod PlainWhole
-pub mod ToldItems
-pub mod ToldPlaces
-pub mod ToldDeciding
-pub mod ToldExists
-pub mod ToldCounts
+mod AskedLemmas
+mod BuildLemmas
+mod DoesLemmas
+mod FileLoops
+mod OneAnswer
+mod PlainParts
+mod PlainNumbers
+mod PlainNames
+mod PlainQuoted
+mod PlainData
+mod PlainLines
+mod PlainLoops
+mod PlainPairs
+mod PlainTame
+mod PlainWhole
+mod PrintLemmas
+mod RequestLaws
+mod RunLemmas
+mod StageLaws
+mod Statuses
+mod ToldItems
+mod ToldPlaces
+mod ToldDeciding
+mod ToldExists
+mod ToldCounts
+mod Walks

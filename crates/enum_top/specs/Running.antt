@@ -1,113 +1,107 @@
--- How a run comes to its answer, for the functions below `run`.
-use Rattle.std.specs.Prelude.{◌≡◌, ◌⊎◌, ℕ, List, ◌∷◌, ◌++◌, [], take, Option, Result, Ok, Err}
-use Rattle.enum_app.specs.Number.{digits_of}
-use Rattle.enum_base.specs.Outside.{File, with_more}
-use Rattle.ddds_walk.specs.declared.lists.Report.{Report}
-use Rattle.naptr_data.specs.Zones.{Zone}
+-- How a run comes to its answer.
+use Rattle.std.specs.Prelude.{◌≡◌, ℕ, List, ◌∷◌, take, Option, Result, Ok, Err}
+use Rattle.enum_app.specs.Number.{plus}
 use Rattle.service_field.specs.Wanted.{wanted_text}
-use Rattle.enum_top.specs.Answers.{Lacks, MeetsOther, Reports}
-use Rattle.enum_top.specs.Asked.{Asked, AsksFor, IsWellFormed, BreaksString, BreaksWant, BreaksApex, BreaksKey, key_under}
-use Rattle.enum_top.specs.FaultLines.{line_of, status_of}
-use Rattle.enum_top.specs.Files.{IsZoneOf, HasApex, Tell, StopsAt, IsAbsent, IsOther}
-use Rattle.enum_top.specs.Printing.{printed, status_for}
-use Rattle.enum_top.specs.Words.{IsRequest}
-use Rattle.enum_top.specs.Writing.{Takes, WhereTold}
-use Rattle.enum_top.specs.declared.question.Question.{Question}
+use Rattle.service_field.specs.declared.wanted.Wanted.{Wanted}
+use Rattle.naptr_data.specs.Zones.{Zone}
+use Rattle.enum_base.specs.Causes.{Blames}
+use Rattle.enum_base.specs.Outside.{ShelfState, SinkState}
+use Rattle.enum_base.specs.Writing.{Gains, Takes}
+use Rattle.request_words.specs.Words.{Means, IsRequest}
+use Rattle.request_words.specs.declared.request.Request.{Request}
+use Rattle.enum_top.specs.Answers.{Breaks, ComesTo, IsText, Leaves}
+use Rattle.enum_top.specs.Applications as applications
+use Rattle.enum_top.specs.Endings.{status_of, cause_status, ended_as}
+use Rattle.enum_top.specs.FaultLines.{cause_line, line_of}
+use Rattle.enum_top.specs.Verdicts.{Told, Verdict}
+use Rattle.enum_top.specs.Verdicts.Verdict.{prints, refuses}
+use Rattle.enum_top.specs.declared.asked.Asked.{Asked}
+use Rattle.enum_top.specs.declared.cause.Cause.{Cause}
 use Rattle.enum_top.specs.declared.refusal.Refusal.{Refusal}
-use Rattle.enum_top.specs.declared.refusal.Refusal.TheVariants.{Usage, BadString, BadWant, BadApex, BadKey, Absent, Unbuilt, Outside, Memory}
+use Rattle.enum_top.specs.declared.refusal.Refusal.TheVariants.{Usage, IllFormed, Outside, Memory}
+use Rattle.enum_top.specs.declared.status.Ending.{Ending}
+use Rattle.enum_top.specs.declared.status.Object.{Object}
 use Rattle.enum_top.specs.declared.status.Object.TheVariants.{Shelf, Output}
 use Rattle.enum_top.specs.declared.status.Status.{Status}
 use Rattle.enum_top.specs.declared.told.ToldZones.{ToldZones}
 
--- a question holds what is asked
-pub record IsQuestion (asked : Asked) (question : Question) : Type 0 where
-  pub well : IsWellFormed asked
-  pub number : question.number ≡ digits_of asked.string
-  pub wanted : wanted_text question.wanted ≡ asked.want
-  pub key : question.key ≡ key_under asked well.apex
+-- a part of the work was done or stopped as `One` says; only objects that are used fail
+pub record Does {A : Type 0} (Used : Object → Type 0) (One : Result A Cause → Type 0) (result : Result A Refusal) : Type 0 where
+  pub went : (value : A) → result ≡ Ok value → One (Ok value)
+  pub stopped : (cause : Cause) → result ≡ Err (IllFormed cause) → One (Err cause)
+  pub failed : (object : Object) → result ≡ Err (Outside object) → Used object
+  pub asked : result ≡ Err Usage → ⊥
+  pub unwritten : result ≡ Err (Outside Output) → ⊥
 
--- the question of what is asked, or the first that is ill-formed
-abbrev pub Questions : Asked → Result Question Refusal → Type 0
-Questions asked (Ok question) = IsQuestion asked question
-Questions asked (Err (BadString fault)) = BreaksString asked fault
-Questions asked (Err (BadWant fault)) = BreaksWant asked fault
-Questions asked (Err (BadApex fault)) = BreaksApex asked fault
-Questions asked (Err BadKey) = BreaksKey asked
-Questions asked (Err Usage) = ⊥
-Questions asked (Err (Absent name)) = ⊥
-Questions asked (Err Unbuilt) = ⊥
-Questions asked (Err (Outside object)) = ⊥
-Questions asked (Err Memory) = ⊥
+-- .. that uses the shelf alone
+abbrev pub DoesOnShelf : {A : Type 0} → (Result A Cause → Type 0) → Result A Refusal → Type 0
+DoesOnShelf One result = Does (λ object. object ≡ Shelf) One result
 
--- the zone of one more file, behind others
-pub record IsAdded (files : List File) (name : List ℕ) (zones : List Zone) (zone : Zone) : Type 0 where
-  pub is : IsZoneOf files name zone
-  pub apart : ¬ HasApex zones zone.apex
+-- a shelf was read: it tells the same files, and it is blamed exactly where its count rose
+pub record ReadsShelf (old new : ShelfState) (Blamed : Type 0) : Type 0 where
+  pub files : new.files ≡ old.files
+  pub blamed : Blames old.faults new.faults Blamed
 
--- one more file is added, or stops the work
-abbrev pub Adds : {A : Type 0} → Option (List File) → (name : List ℕ) → (zones zones' : List Zone) → Result A Refusal → Type 0
-Adds told name zones zones' (Ok done) =
-    (zone : Zone) × (zones' ≡ zones ++ zone ∷ []) × WhereTold told (λ files. IsAdded files name zones zone)
-Adds told name zones zones' (Err (Absent absent)) = (absent.now ≡ name) × WhereTold told (λ files. IsAbsent files name zones)
-Adds told name zones zones' (Err Unbuilt) = WhereTold told (λ files. IsOther files name zones)
-Adds told name zones zones' (Err (Outside Shelf)) = Unit {0}
-Adds told name zones zones' (Err Memory) = Unit {0}
-Adds told name zones zones' (Err (Outside Output)) = ⊥
-Adds told name zones zones' (Err Usage) = ⊥
-Adds told name zones zones' (Err (BadString fault)) = ⊥
-Adds told name zones zones' (Err (BadWant fault)) = ⊥
-Adds told name zones zones' (Err (BadApex fault)) = ⊥
-Adds told name zones zones' (Err BadKey) = ⊥
+-- the original string of a number
+abbrev pub string_in : Result (List ℕ) Cause → Result (List ℕ) Cause
+string_in (Ok digits) = Ok (plus ∷ digits)
+string_in (Err cause) = Err cause
 
--- the zones of all files, or what stops the work
-abbrev pub TellsZones : Option (List File) → List (List ℕ) → Result ToldZones Refusal → Type 0
-TellsZones told names (Ok t) = WhereTold told (λ files. Tell files names t.zones)
-TellsZones told names (Err (Absent name)) = WhereTold told (λ files. StopsAt files names name.now (IsAbsent files name.now))
-TellsZones told names (Err Unbuilt) = WhereTold told (λ files. (name : List ℕ) × StopsAt files names name (IsOther files name))
-TellsZones told names (Err (Outside Shelf)) = Unit {0}
-TellsZones told names (Err Memory) = Unit {0}
-TellsZones told names (Err (Outside Output)) = ⊥
-TellsZones told names (Err Usage) = ⊥
-TellsZones told names (Err (BadString fault)) = ⊥
-TellsZones told names (Err (BadWant fault)) = ⊥
-TellsZones told names (Err (BadApex fault)) = ⊥
-TellsZones told names (Err BadKey) = ⊥
+-- the text of a wanted list
+abbrev pub wanted_in : Result Wanted Cause → Result (Option (List ℕ)) Cause
+wanted_in (Ok wanted) = Ok (wanted_text wanted)
+wanted_in (Err cause) = Err cause
 
--- what a run over a request does, and what its output holds then
-abbrev pub Resolves : Asked → Option (List File) → (held held' : Option (List ℕ)) → Result Status Refusal → Type 0
-Resolves asked told held held' (Ok status) =
-    IsWellFormed asked × ((report : Report) × (status ≡ status_for report) × (held' ≡ with_more held (printed report)) × WhereTold told (λ files. Reports files report asked))
-Resolves asked told held held' (Err Usage) = ⊥
-Resolves asked told held held' (Err (BadString fault)) = BreaksString asked fault × (held' ≡ held)
-Resolves asked told held held' (Err (BadWant fault)) = BreaksWant asked fault × (held' ≡ held)
-Resolves asked told held held' (Err (BadApex fault)) = BreaksApex asked fault × (held' ≡ held)
-Resolves asked told held held' (Err BadKey) = BreaksKey asked × (held' ≡ held)
-Resolves asked told held held' (Err (Absent name)) =
-    IsWellFormed asked × WhereTold told (λ files. Lacks files name.now asked) × (held' ≡ held)
-Resolves asked told held held' (Err Unbuilt) = IsWellFormed asked × WhereTold told (λ files. MeetsOther files asked) × (held' ≡ held)
-Resolves asked told held held' (Err (Outside Shelf)) = IsWellFormed asked × (held' ≡ held)
-Resolves asked told held held' (Err (Outside Output)) =
-    IsWellFormed asked × ((report : Report) × WhereTold told (λ files. Reports files report asked) × ((n : ℕ) × (held' ≡ with_more held (take n (printed report)))))
-Resolves asked told held held' (Err Memory) = IsWellFormed asked × (held' ≡ held)
+-- what is asked, without the slices that it is held in
+abbrev pub asked_of : Asked → applications.Asked
+asked_of asked = record { string = asked.string; want = wanted_text asked.wanted; key = asked.key }
 
--- the words are no request, or a request that is run so
-abbrev pub Gives : List (List ℕ) → Option (List File) → (held held' : Option (List ℕ)) → Result Status Refusal → Type 0
-Gives words told held held' result =
-    ((result ≡ Err Usage) × (¬ IsRequest words) × (held' ≡ held)) ⊎ ((asked : Asked) × AsksFor words asked × Resolves asked told held held' result)
+abbrev pub asked_in : Result Asked Cause → Result applications.Asked Cause
+asked_in (Ok asked) = Ok (asked_of asked)
+asked_in (Err cause) = Err cause
+
+-- the zones of a source
+abbrev pub zones_in : Result ToldZones Cause → Result (List Zone) Cause
+zones_in (Ok told) = Ok told.zones
+zones_in (Err cause) = Err cause
+
+-- .. after one more was added, or the cause why not
+abbrev pub zones_after : List Zone → Result (Unit {0}) Cause → Result (List Zone) Cause
+zones_after zones (Ok done) = Ok zones
+zones_after zones (Err cause) = Err cause
+
+-- the refusals that come with no text and no verdict
+abbrev pub Keeps : Refusal → Type 0
+Keeps Usage = Unit {0}
+Keeps (IllFormed cause) = ⊥
+Keeps (Outside Shelf) = Unit {0}
+Keeps (Outside Output) = ⊥
+Keeps Memory = Unit {0}
+
+-- what a run comes to before a refusal is told
+pub record Runs (told : Told) (words : List (List ℕ)) (out out' : SinkState) (result : Result Ending Refusal) : Type 0 where
+  pub usage : result ≡ Err Usage → ¬ IsRequest words
+  pub request : ¬ IsRequest words → result ≡ Err Usage
+  pub early : (request : Request) (cause : Cause) → Means words request → Breaks words request cause → result ≡ Err (IllFormed cause)
+  pub printed : (ending : Ending) → result ≡ Ok ending → (text : List ℕ) × ComesTo told words (prints ending text) × Gains out out' text
+  pub refused : (cause : Cause) → result ≡ Err (IllFormed cause) → (front : List ℕ) × ComesTo told words (refuses front cause) × Gains out out' front
+  pub cut : result ≡ Err (Outside Output) → (text : List ℕ) × IsText told words text × ((n : ℕ) × Gains out out' (take n text))
+  pub kept : (why : Refusal) → Keeps why → result ≡ Err why → (front : List ℕ) × Leaves told words front × Gains out out' front
 
 -- the status of a run
-abbrev pub ended_as : Result Status Refusal → Status
-ended_as (Ok status) = status
-ended_as (Err refusal) = status_of refusal
-
--- what the sink of the fault lines holds then
-abbrev pub Tells : Result Status Refusal → (held held' : Option (List ℕ)) (faults faults' : ℕ) → Type 0
-Tells (Ok status) held held' faults faults' = held' ≡ held
-Tells (Err refusal) held held' faults faults' = Takes held held' faults faults' (line_of refusal)
+abbrev pub ended : Result Ending Refusal → Status
+ended (Ok ending) = status_of ending
+ended (Err why) = ended_as why
 
 -- a whole run
-pub record Runs (words : List (List ℕ)) (told : Option (List File)) (out out' err err' : Option (List ℕ)) (faults faults' : ℕ) (status : Status) : Type 0 where
-  pub result : Result Status Refusal
-  pub gives : Gives words told out out' result
-  pub ends : status ≡ ended_as result
-  pub tells : Tells result err err' faults faults'
+pub record Ends (told : Told) (words : List (List ℕ)) (out out' err err' : SinkState) (status : Status) : Type 0 where
+  pub result : Result Ending Refusal
+  pub runs : Runs told words out out' result
+  pub is : status ≡ ended result
+  pub tells : (why : Refusal) → result ≡ Err why → Takes err err' (line_of words why)
+
+-- a run ended by this verdict
+abbrev pub EndsWith : List (List ℕ) → Verdict → Status → (out out' err err' : SinkState) → Type 0
+EndsWith words (prints ending text) end out out' err err' = (end ≡ status_of ending) × Gains out out' text
+EndsWith words (refuses front cause) end out out' err err' =
+    (end ≡ cause_status cause) × Gains out out' front × Takes err err' (cause_line words cause)

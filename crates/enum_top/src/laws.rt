@@ -1,17 +1,24 @@
-//! There is one report.
-ghost use Rattle.std.specs.Prelude.{◌≡◌, List};
-ghost use Rattle.naptr_data.specs.Zones.{Labels, Zone};
-ghost use Rattle.ddds_walk.specs.Rules.{Client};
-ghost use Rattle.ddds_walk.specs.Report.{Answers};
-ghost use Rattle.ddds_walk.specs.declared.lists.Report.{Report};
+//! What a request comes to is one thing.
+ghost use Rattle.std.specs.Prelude.{◌≡◌, ℕ, List, []};
+ghost use Rattle.request_words.specs.declared.request.Request.{Request};
+ghost use Rattle.enum_top.specs.Answers.{Answers, AreTold, Breaks};
+ghost use Rattle.enum_top.specs.Verdicts.{Told, Verdict};
+ghost use Rattle.enum_top.specs.Verdicts.Verdict.{refuses};
+ghost use Rattle.enum_top.specs.declared.cause.Cause.{Cause};
 
 use ddds_walk::{one_loop, one_report};
 
-/// A walk over zones has one answer.
-pub fn one_answer()
-    ensures { (c : Client) (zones : List Zone) (key : Labels) (one other : Report) → Answers c zones key one →
-        Answers c zones key other → one ≡ other }
+/// Over told objects a request comes to one verdict at most.
+pub fn one_verdict()
+    ensures { (told : Told) (words : List (List ℕ)) (request : Request) (one other : Verdict)
+        → AreTold request told → Answers told words request one → Answers told words request other → one ≡ other }
 {
     one_report();
     one_loop();
 }
+
+/// .. which is the refusal of a cause that the words alone are.
+pub fn early_verdict()
+    ensures { (told : Told) (words : List (List ℕ)) (request : Request) (cause : Cause)
+        → Breaks words request cause → Answers told words request (refuses [] cause) }
+{}

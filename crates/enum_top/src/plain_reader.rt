@@ -17,8 +17,8 @@ use std::alloc::Global;
 // How many lines there may be behind the first.
 const MOST_BEHIND: usize = 999;
 
-// The greatest number of bytes of a text.
-const MOST_BYTES: usize = 262_144;
+/// The greatest number of bytes of a text.
+pub const MOST_BYTES: usize = 262_144;
 
 // The start of authority of this apex, and the lines behind it.
 fn read_lines(alloc: Global, apex: Name, text: &[u8]) -> Result<Option<Lines>, MemoryFault>

@@ -1,20 +1,41 @@
 //! How a run ends.
 ghost use Rattle.std.specs.Prelude.{◌≡◌};
-ghost use Rattle.enum_top.specs.Status.{code_of};
+ghost use Rattle.enum_top.specs.Endings.{code_of, ended_as, status_of};
+
+use crate::refusal::Refusal;
+use enum_base::Bytes;
 
 /// An object of the outside that may fail.
 #[derive(Clone, Copy, Debug, PartialEq, Eq)]
 pub enum Object {
     /// The files.
     Shelf,
-    /// Where the report goes.
+    /// Where the text goes.
     Output,
+}
+
+/// What a whole text comes to.
+#[derive(Clone, Copy, Debug, PartialEq, Eq)]
+pub enum Ending {
+    /// The job is done; for a report, it has an end or more.
+    Done,
+    /// The report has no end.
+    Nothing,
+    /// The report is a loop.
+    Loop,
+}
+
+/// The whole text of a command, and what it comes to.
+#[derive(Drop)]
+pub struct Printed {
+    pub ending: Ending,
+    pub text: Bytes,
 }
 
 /// How a run ended.
 #[derive(Clone, Copy, Debug, PartialEq, Eq)]
 pub enum Status {
-    /// The report was printed, and it has an end or more.
+    /// The job was done; for `resolve`, the report was printed, and it has an end or more.
     Done,
     /// The report was printed, and it has no end.
     Nothing,
@@ -46,6 +67,33 @@ impl Status {
             Status::Outside(_) => 5,
             Status::Memory => 6,
             Status::Unbuilt => 9,
+        }
+    }
+}
+
+impl Ending {
+    /// The status of a text that was printed whole.
+    pub fn status(self) -> Status
+        ensures { result ≡ status_of self }
+    {
+        match self {
+            Ending::Done => Status::Done,
+            Ending::Nothing => Status::Nothing,
+            Ending::Loop => Status::Loop,
+        }
+    }
+}
+
+impl Refusal {
+    /// The status that a refusal ends with.
+    pub fn status(self) -> Status
+        ensures { result ≡ ended_as self }
+    {
+        match self {
+            Refusal::Usage => Status::Usage,
+            Refusal::IllFormed(cause) => cause.status(),
+            Refusal::Outside(object) => Status::Outside(object),
+            Refusal::Memory => Status::Memory,
         }
     }
 }

@@ -1,9 +1,8 @@
 //! Zones that are told, as a source of rules.
-ghost use Rattle.std.specs.Prelude.{◌≡◌, ◌≢◌, ◌↔◌, ℕ, List, ◌<◌, ◌≤◌, ◌*◌, ◌++◌, ◌∷◌, [], length, map, Contains, Some, IsTrue, IfOk, OnOk, OnErr};
-ghost use Rattle.dns_name.specs.Name.{AreSame, folded_labels};
-ghost use Rattle.enum_base.specs.Causes.{one_more};
-ghost use Rattle.naptr_data.specs.Zones.{Labels, Zone, rules_and_aliases, rules_and_aliases_in};
-ghost use Rattle.naptr_data.specs.Sources.{Offers, HasFewRules, Keeps, Fetches, AreKept, HasTrouble};
+ghost use Rattle.std.specs.Prelude.{◌≡◌, ◌↔◌, ◌<◌, ◌≤◌, ◌*◌, ◌++◌, ◌∷◌, [], length, map, Contains, IsTrue, IfErr, IfOk, OnOk, OnErr};
+ghost use Rattle.dns_name.specs.Name.{AreSame};
+ghost use Rattle.naptr_data.specs.Zones.{IsOffer, Zone, rules_and_aliases, rules_and_aliases_in};
+ghost use Rattle.naptr_data.specs.Sources.{HasFewRules};
 ghost use Rattle.enum_top.specs.PlainZone.{owned_of, zone_of, IsTame};
 ghost use Rattle.enum_top.specs.Told.{AreTame};
 
@@ -65,14 +64,6 @@ impl ToldZones {
         }
     }
 
-    /// How often it was asked.
-    #[cfg(test)]
-    pub fn asks(&self) -> u64
-        ensures { result ≡ self.now.asks }
-    {
-        self.asks
-    }
-
     /// How many rules and CNAMEs its zones hold.
     pub fn rules_and_aliases(&self) -> u32
         ensures count { result ≡ rules_and_aliases self.now.zones }
@@ -130,43 +121,34 @@ fn is_rule_or_alias(item: &PlainItem) -> bool
 }
 
 impl RuleSource for ToldZones {
-    ghost use Rattle.std.specs.Prelude.{Some, []};
+    ghost use Rattle.std.specs.Prelude.{Some, [], false};
 
-    ghost zones = { λ t. Some t.zones };
+    ghost state = { λ t. record {
+      zones = Some t.zones;
+      asks = t.asks;
+      troubles = 0;
+      failed = false;
+      room = 0;
+      kept = [];
+      fetched = t.asks;
+      lent = [];
+    } };
 
-    ghost asks = { λ t. t.asks };
-
-    ghost troubles = { λ t. 0 };
-
-    ghost HasFailed = { λ t. ⊥ };
-
-    ghost room = { λ t. 0 };
-
-    ghost kept = { λ t. [] };
-
-    ghost fetched = { λ t. t.asks };
-
-    ghost lent = { λ t. [] };
-
-    fn offer(&mut self, alloc: Global, name: &Name) -> Result<Offer, SourceFault>
-        ensures zones { Some self.new.zones ≡ Some self.old.zones }
-        ensures offered { IfOk result (Offers (Some self.old.zones) name.now) }
-        ensures few { IfOk result HasFewRules }
-        ensures asks { self.new.asks ≡ one_more self.old.asks }
-        ensures trouble { HasTrouble 0 0 ⊥ result }
-        ensures room { ◌≡◌ {A = ℕ} 0 0 }
-        ensures keeps { Keeps 0 (folded_labels name.now) [] [] result }
-        ensures fetched { Fetches (folded_labels name.now) [] self.old.asks self.new.asks }
-        ensures before { AreKept [] self.old.asks }
-        ensures after { AreKept [] self.new.asks }
-        ensures lent { ◌≡◌ {A = List ℕ} [] [] }
-        // It never has trouble.
-        ensures never { result ≢ Err SourceFault.Trouble }
-    {
+    fn offer(&mut self, alloc: Global, name: &Name) -> Result<Offer, SourceFault> {
         self.asks = self.asks.saturating_add(1);
-        match offer_of(alloc, self.zones.as_slice(), name) {
-            Ok(offer) => Ok(offer),
-            Err(_) => Err(SourceFault::Memory),
-        }
+        offer_from(alloc, self.zones.as_slice(), name)
+    }
+}
+
+// What the zones offer for the name. Want of memory is the one fault.
+fn offer_from(alloc: Global, zones: &[PlainZone], name: &Name) -> Result<Offer, SourceFault>
+    requires { AreTame zones.now }
+    ensures offered { IfOk result (IsOffer (map zone_of zones.now) name.now) }
+    ensures few { IfOk result HasFewRules }
+    ensures fault { IfErr result (λ fault. fault ≡ SourceFault.Memory) }
+{
+    match offer_of(alloc, zones, name) {
+        Ok(offer) => Ok(offer),
+        Err(_) => Err(SourceFault::Memory),
     }
 }

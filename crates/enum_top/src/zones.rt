@@ -1,93 +1,70 @@
-//! The zones of the files that a request names.
-ghost use Rattle.std.specs.Prelude.{◌≡◌, ◌<◌, ◌≤◌, length, map, IsErrOf};
-ghost use Rattle.enum_base.specs.Causes.{Blames};
-ghost use Rattle.enum_top.specs.Asked.{asked_of};
-ghost use Rattle.enum_top.specs.Running.{Adds, TellsZones};
-ghost use Rattle.enum_top.specs.Words.{texts_of, text_at};
+//! The zones of the files that the words name.
+ghost use Rattle.std.specs.Prelude.{◌<◌, ◌≤◌, length, IsErrOf};
+ghost use Rattle.request_words.specs.Words.{texts_of};
+ghost use Rattle.enum_top.specs.Running.{Does, DoesOnShelf, ReadsShelf, zones_after, zones_in};
+ghost use Rattle.enum_top.specs.ZoneFiles.{Builds, NextZone, ZonesOf};
 ghost use Rattle.enum_top.specs.declared.refusal.Refusal.TheVariants as refusal;
 
-use crate::load::{LoadFault, load};
-use crate::plain_reader::read_plain;
+use crate::cause::Cause;
+use crate::plain_reader::{MOST_BYTES, read_plain};
 use crate::refusal::Refusal;
 use crate::status::Object;
 use crate::told::ToldZones;
-use crate::words::{Origin, Request, text_at};
-use enum_base::Shelf;
+use enum_base::{LoadFault, Shelf, load};
+use request_words::text_at;
 use std::alloc::Global;
 
-/// Reads the files of a request in turn; the first that is not there, is no plain text or has the apex of an earlier
-/// one stops it.
-pub fn tell_zones<'a, S: Shelf>(
+/// Reads the files whose names are the words at these places, one after another; the first that is not there, is no plain
+/// text or has the apex of an earlier one stops it. Of a file at most 262,144 bytes and one buffer are read.
+pub fn read_zones<S: Shelf>(
     alloc: Global,
-    words: &'a [String],
-    request: &Request,
-    shelf: &mut S,
-) -> Result<ToldZones, Refusal<'a>>
-    requires few { length (asked_of (texts_of words.now) request.now).files ≤ 64 }
-    ensures tells { TellsZones (S.files shelf.old) (asked_of (texts_of words.now) request.now).files result }
-    ensures files { S.files shelf.new ≡ S.files shelf.old }
-    ensures shelf { Blames (S.faults shelf.old) (S.faults shelf.new) (IsErrOf result (refusal.Outside Object.Shelf)) }
-{
-    let Request::Resolve {
-        origin: Origin::Files(places),
-        ..
-    } = *request;
-    add_files(alloc, words, places.as_slice(), shelf)
-}
-
-// The zones of the files whose names stand at these places.
-fn add_files<'a, S: Shelf>(
-    alloc: Global,
-    words: &'a [String],
+    words: &[String],
     places: &[usize],
     shelf: &mut S,
-) -> Result<ToldZones, Refusal<'a>>
+) -> Result<ToldZones, Refusal>
     requires few { length places.now ≤ 64 }
-    ensures tells { TellsZones (S.files shelf.old) (map (text_at (texts_of words.now)) places.now) result }
-    ensures files { S.files shelf.new ≡ S.files shelf.old }
-    ensures shelf { Blames (S.faults shelf.old) (S.faults shelf.new) (IsErrOf result (refusal.Outside Object.Shelf)) }
+    ensures does { DoesOnShelf (λ told. ZonesOf (S.state shelf.old).files (texts_of words.now) places.now (zones_in told)) result }
+    ensures shelf { ReadsShelf (S.state shelf.old) (S.state shelf.new) (IsErrOf result (refusal.Outside Object.Shelf)) }
 {
     let mut told = ToldZones::new(alloc);
     for place in places {
-        match add_file(alloc, text_at(words, *place), &mut told, shelf) {
-            Ok(()) => {}
-            Err(refusal) => return Err(refusal),
-        }
+        add_file(alloc, words, *place, &mut told, shelf)?;
     }
     Ok(told)
 }
 
-// One file more.
-fn add_file<'a, S: Shelf>(
+// The zone of one file more.
+fn add_file<S: Shelf>(
     alloc: Global,
-    name: &'a str,
+    words: &[String],
+    place: usize,
     told: &mut ToldZones,
     shelf: &mut S,
-) -> Result<(), Refusal<'a>>
+) -> Result<(), Refusal>
     requires room { length told.old.zones < 64 }
-    ensures adds { Adds (S.files shelf.old) name.now told.old.zones told.new.zones result }
-    ensures files { S.files shelf.new ≡ S.files shelf.old }
-    ensures shelf { Blames (S.faults shelf.old) (S.faults shelf.new) (IsErrOf result (refusal.Outside Object.Shelf)) }
+    ensures does { DoesOnShelf (λ done. NextZone (S.state shelf.old).files (texts_of words.now) told.old.zones place (zones_after told.new.zones done)) result }
+    ensures shelf { ReadsShelf (S.state shelf.old) (S.state shelf.new) (IsErrOf result (refusal.Outside Object.Shelf)) }
 {
-    let bytes = match load(alloc, name, shelf) {
-        Ok(bytes) => bytes,
-        Err(LoadFault::Absent) => return Err(Refusal::Absent(name)),
-        Err(LoadFault::TooLarge) => return Err(Refusal::Unbuilt),
-        Err(LoadFault::Failed) => return Err(Refusal::Outside(Object::Shelf)),
-        Err(LoadFault::Memory) => return Err(Refusal::Memory),
-    };
-    let found = match read_plain(alloc, bytes.as_slice()) {
-        Ok(found) => found,
-        Err(_) => return Err(Refusal::Memory),
-    };
-    let Some(zone) = found else {
-        return Err(Refusal::Unbuilt);
+    match load(alloc, text_at(words, place), MOST_BYTES, shelf) {
+        Ok(bytes) => add_text(alloc, bytes.as_slice(), told),
+        Err(LoadFault::Absent) => Err(Refusal::IllFormed(Cause::Absent(place))),
+        Err(LoadFault::TooLarge) => Err(Refusal::IllFormed(Cause::Unbuilt)),
+        Err(LoadFault::Failed) => Err(Refusal::Outside(Object::Shelf)),
+        Err(LoadFault::Memory) => Err(Refusal::Memory),
+    }
+}
+
+// The zone of one text more.
+fn add_text(alloc: Global, bytes: &[u8], told: &mut ToldZones) -> Result<(), Refusal>
+    requires room { length told.old.zones < 64 }
+    ensures { Does (λ object. ⊥) (λ done. Builds told.old.zones bytes.now (zones_after told.new.zones done)) result }
+{
+    let Some(zone) = read_plain(alloc, bytes)? else {
+        return Err(Refusal::IllFormed(Cause::Unbuilt));
     };
     if told.holds(&zone.apex) {
-        return Err(Refusal::Unbuilt);
+        return Err(Refusal::IllFormed(Cause::Unbuilt));
     }
-    match told.add(zone) {
-        Ok(()) => Ok(()),
-        Err(_) => Err(Refusal::Memory),
-    }
+    told.add(zone)?;
+    Ok(())
 }

@@ -48,11 +48,7 @@ impl<'a, R: Files> FileShelf<'a, R> {
 }
 
 impl<R: Files> Shelf for FileShelf<'_, R> {
-    ghost files = { λ _. None };
-
-    ghost left = { λ _. None };
-
-    ghost faults = { λ s. s };
+    ghost state = { λ s. record { files = None; left = None; faults = s } };
 
     // A name that the system does not find is no file. Every other error is a fault.
     fn fetch(&mut self, name: &str) -> Result<bool, Failed> {

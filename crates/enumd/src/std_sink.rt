@@ -41,9 +41,7 @@ impl<W: Write + Drop> StdSink<W> {
 }
 
 impl<W: Write + Drop> Sink for StdSink<W> {
-    ghost held = { λ _. None };
-
-    ghost faults = { λ s. s };
+    ghost state = { λ s. record { held = None; faults = s } };
 
     fn write(&mut self, bytes: &[u8]) -> Result<usize, Failed> {
         match write_some(&mut self.writer, bytes) {
@@ -70,8 +68,22 @@ fn write_some<W: Write>(writer: &mut W, bytes: &[u8]) -> Option<usize>
 #[cfg(test)]
 mod tests {
     use super::*;
-    use std::fs;
     use std::test::Fail;
+    use std::{fs, io};
+
+    // A writer that takes all, and cannot pass it on.
+    #[derive(Drop)]
+    struct Stuck;
+
+    impl Write for Stuck {
+        fn write(&mut self, bytes: &[u8]) -> io::Result<usize> {
+            Ok(bytes.len())
+        }
+
+        fn flush(&mut self) -> io::Result<()> {
+            Err(io::ErrorKind::BrokenPipe.into())
+        }
+    }
 
     // Two writes of the bytes, and one of nothing.
     fn write_twice<S: Sink>(sink: &mut S, bytes: &[u8]) -> [Result<usize, Failed>; 3] {
@@ -94,6 +106,10 @@ mod tests {
             write_twice(&mut sink, b"end 1\n"),
             [Ok(4), Err(Failed), Ok(0)]
         );
+        assert_eq!(rt; sink.faults, 1);
+        // What is taken and not passed on is a fault.
+        let mut sink = StdSink::new(Stuck);
+        assert_eq!(rt; sink.write(b"x"), Err(Failed));
         assert_eq!(rt; sink.faults, 1);
         // A file that was opened for reading takes none.
         let mut sink = StdSink::new(fs::open(&rt, "out.txt")?);

@@ -1,0 +1,53 @@
+-- Files that are read in turn.
+use Rattle.std.proofs.Common.{◌≡◌, inl, inr, ℕ, suc, ◌+◌, ◌<◌, ◌≤◌, List, [], ◌∷◌, ◌++◌, length, drop, get_or, Option, Result, Ok, Err, refl, sym, ap, subst, ◌∙◌, length-append, arith}
+use Rattle.std.proofs.Math.Seq.{drop-cons}
+use Rattle.std.proofs.lemmas.Grind.{common_steps}
+use Rattle.enum_base.specs.Outside.{File}
+use Rattle.naptr_data.specs.Zones.{Zone}
+use Rattle.enum_top.specs.Verdicts.Then.{goes, stops}
+use Rattle.enum_top.specs.ZoneFiles.{Builds, NextZone, ZonesFrom}
+use Rattle.enum_top.specs.declared.cause.Cause.{Cause}
+
+next_place : (places : List ℕ) (i : ℕ) → i < length places → drop i places ≡ get_or places i 0 ∷ drop (i + 1) places
+next_place places i below = let one : i + 1 ≡ suc i = omega arith in drop-cons places i 0 below ∙ ap (λ n. get_or places i 0 ∷ drop n places) (sym one)
+
+-- whatever the files from this place on come to after these zones, all of them come to it
+pub record Leads (files : Option (List File)) (words : List (List ℕ)) (places left : List ℕ) (zones : List Zone) : Type 0 where
+  pub all : (result : Result (List Zone) Cause) → ZonesFrom files words zones left result → ZonesFrom files words [] places result
+
+pub none_read : (files : Option (List File)) (words : List (List ℕ)) (places : List ℕ) (zones : List Zone) → zones ≡ [] → Leads files words places places zones
+none_read files words places zones is = record { all = λ result h. subst (λ (zs : List Zone). ZonesFrom files words zs places result) is h }
+
+-- one file more
+pub one_read : (files : Option (List File)) (words : List (List ℕ)) (places : List ℕ) (i : ℕ) (zones more : List Zone) → i < length places → Leads files words places (drop i places) zones → NextZone files words zones (get_or places i 0) (Ok more) → Leads files words places (drop (i + 1) places) more
+one_read files words places i zones more below leads read = record {
+  all = λ result h. leads.all result (subst (λ (l : List ℕ). ZonesFrom files words zones l result) (sym (next_place places i below)) (goes more read h));
+}
+
+-- the next file stops it
+pub stopped_next : (files : Option (List File)) (words : List (List ℕ)) (places : List ℕ) (i : ℕ) (zones : List Zone) (cause : Cause) → i < length places → Leads files words places (drop i places) zones → NextZone files words zones (get_or places i 0) (Err cause) → ZonesFrom files words [] places (Err cause)
+stopped_next files words places i zones cause below leads stopped =
+    leads.all (Err cause) (subst (λ (l : List ℕ). ZonesFrom files words zones l (Err cause)) (sym (next_place places i below)) (stops cause stopped refl))
+
+-- all were read
+pub all_read : (files : Option (List File)) (words : List (List ℕ)) (places : List ℕ) (i : ℕ) (zones : List Zone) → length places ≤ i → Leads files words places (drop i places) zones → ZonesFrom files words [] places (Ok zones)
+all_read files words places i zones end leads =
+    leads.all (Ok zones) (subst (λ (l : List ℕ). ZonesFrom files words zones l (Ok zones)) (sym (drop-all places i end)) refl)
+  where
+    drop-all : (xs : List ℕ) (k : ℕ) → length xs ≤ k → drop k xs ≡ []
+    drop-all xs k le = grind (arith, common_steps)
+
+-- a shelf that was read tells the same files
+pub same_shelf : (now files : Option (List File)) (words : List (List ℕ)) (zones : List Zone) (place : ℕ) (result : Result (List Zone) Cause) → now ≡ files → NextZone now words zones place result → NextZone files words zones place result
+same_shelf now files words zones place result same h =
+    subst (λ (fs : Option (List File)). NextZone fs words zones place result) same h
+
+-- one zone more
+count_built : (zones more : List Zone) (bytes : List ℕ) → Builds zones bytes (Ok more) → length more ≡ length zones + 1
+count_built zones more bytes (inl (zone, next, is)) =
+    let same : more ≡ zones ++ zone ∷ [] = cc is in ap length same ∙ length-append zones (zone ∷ [])
+count_built zones more bytes (inr (none, is)) = absurd (cc is)
+
+pub count_more : (files : Option (List File)) (words : List (List ℕ)) (zones : List Zone) (place : ℕ) (more : List Zone) → NextZone files words zones place (Ok more) → length more ≡ length zones + 1
+count_more files words zones place more (goes bytes read built) = count_built zones more bytes built
+count_more files words zones place more (stops cause stopped is) = absurd (cc is)

@@ -1,0 +1,19 @@
+use Rattle.enum_top.proofs.cause.Cause.tell.Goals as goal
+
+pub returns-in-Number : goal.returns-in-Number
+returns-in-Number g c = rw (c.in-Number.is, ← c.words.ensures, ← c.as_slice.ensures.value) c.write_three.ensures.takes
+
+pub returns-in-Want : goal.returns-in-Want
+returns-in-Want g c = rw (c.in-Want.is, ← c.words-in-Want.ensures, ← c.as_slice-in-Want.ensures.value) c.write_three-in-Want.ensures.takes
+
+pub returns-in-Apex : goal.returns-in-Apex
+returns-in-Apex g c = rw (c.in-Apex.is, ← c.words-in-Apex.ensures, ← c.as_slice-in-Apex.ensures.value) c.write_three-in-Apex.ensures.takes
+
+pub returns-in-Key : goal.returns-in-Key
+returns-in-Key g c = rw c.in-Key.is c.write_whole.ensures.takes
+
+pub returns-in-Absent : goal.returns-in-Absent
+returns-in-Absent g c = rw (c.in-Absent.is, ← c.text_at.ensures, ← c.as_bytes.ensures.value) c.write_three-in-Absent.ensures.takes
+
+pub returns-in-Unbuilt : goal.returns-in-Unbuilt
+returns-in-Unbuilt g c = rw c.in-Unbuilt.is c.write_whole-in-Unbuilt.ensures.takes

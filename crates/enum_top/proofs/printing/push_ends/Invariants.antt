@@ -1,6 +1,0 @@
-use Rattle.std.proofs.Common.{◌≡◌, ◌++◌, take, flat_map}
-use Rattle.enum_top.specs.Printing.{end_line}
-use Rattle.enum_top.proofs.printing.push_ends.Given as goal
-
-abbrev pub invariant-loop-end : goal.invariant-loop-end
-invariant-loop-end l = l.out ≡ l.initial.out ++ flat_map end_line (take l.end-index l.ends)

@@ -1,0 +1,83 @@
+-- What each application makes of the words of a request: its original string, the services that are wanted, and the domain
+-- that its walk begins at (RFC 3402, section 3; ENUM: RFC 6116, sections 1.2 and 3.2).
+use Rattle.std.specs.Prelude.{◌≡◌, ◌⊎◌, ℕ, nat_le, List, [], ◌∷◌, length, if◌then◌else◌, Option, Some, None, option_map, Result, Ok, Err}
+use Rattle.dns_name.specs.Name.{wire_of}
+use Rattle.dns_name.specs.Reading.{name_of}
+use Rattle.dns_name.specs.declared.fault.NameFault.{NameFault}
+use Rattle.enum_app.specs.App.{enum_meaning}
+use Rattle.enum_app.specs.Number.{IsNumber, HasNumberFault, digits_of, key_labels, e164_arpa, plus}
+use Rattle.enum_app.specs.declared.number.NumberFault.{NumberFault}
+use Rattle.naptr_data.specs.Zones.{Labels}
+use Rattle.request_words.specs.Words.{text_at}
+use Rattle.request_words.specs.declared.request.AppName.{AppName}
+use Rattle.request_words.specs.declared.request.AppName.TheVariants.{Enum}
+use Rattle.service_field.specs.Applications.{Meaning}
+use Rattle.service_field.specs.Faults.{wanted_fault}
+use Rattle.service_field.specs.declared.fault.ServiceFault.{ServiceFault}
+use Rattle.enum_top.specs.Verdicts.{Then}
+use Rattle.enum_top.specs.declared.cause.Cause.{Cause}
+use Rattle.enum_top.specs.declared.cause.Cause.TheVariants as cause
+
+-- what the application makes of flags and services
+abbrev pub meaning_of : AppName → Meaning
+meaning_of Enum = enum_meaning
+
+-- the original string of a text, or its fault. ENUM: a plus sign and the digits of the number
+abbrev pub Strings : AppName → List ℕ → Result (List ℕ) Cause → Type 0
+Strings Enum text result =
+    (IsNumber text × (result ≡ Ok (plus ∷ digits_of text)))
+    ⊎ ((fault : NumberFault) × HasNumberFault text fault × (result ≡ Err (cause.Number fault)))
+
+-- the first fault of a wanted list, where there is a list and it has one
+abbrev pub want_fault : AppName → Option (List ℕ) → Option ServiceFault
+want_fault app None = None
+want_fault Enum (Some text) = wanted_fault text
+
+-- a wanted list, unless it has a fault
+abbrev pub faultless : Option (List ℕ) → Option ServiceFault → Result (Option (List ℕ)) Cause
+faultless want None = Ok want
+faultless want (Some fault) = Err (cause.Want fault)
+
+-- the wanted list, where there is one
+abbrev pub Wants : AppName → Option (List ℕ) → Result (Option (List ℕ)) Cause → Type 0
+Wants app want result = result ≡ faultless want (want_fault app want)
+
+-- the domain that a text stands for, or its fault
+abbrev pub as_apex : Result Labels NameFault → Result Labels Cause
+as_apex (Ok labels) = Ok labels
+as_apex (Err fault) = Err (cause.Apex fault)
+
+-- the apex: the name of a text, with the root as origin, or e164.arpa.
+abbrev pub apex_of : Option (List ℕ) → Result Labels NameFault
+apex_of None = Ok e164_arpa
+apex_of (Some text) = name_of text (Some [])
+
+-- .. of the words
+abbrev pub Apexes : Option (List ℕ) → Result Labels Cause → Type 0
+Apexes apex result = result ≡ as_apex (apex_of apex)
+
+-- labels that fit a name
+abbrev pub fitting : Labels → Result Labels Cause
+fitting labels = if nat_le (length (wire_of labels)) 255 then Ok labels else Err cause.Key
+
+-- the domain of digits: the last one first, under the apex
+abbrev pub Numbered : List ℕ → Option (List ℕ) → Result Labels Cause → Type 0
+Numbered digits apex = Then (Apexes apex) (λ top result. result ≡ fitting (key_labels digits top))
+
+-- the domain that the walk begins at. ENUM: that of the digits
+abbrev pub Keys : AppName → List ℕ → Option (List ℕ) → Result Labels Cause → Type 0
+Keys Enum text apex = Numbered (digits_of text) apex
+
+-- what is asked: the original string, the wanted list, and the domain
+pub record Asked : Type 0 where
+  pub string : List ℕ
+  pub want : Option (List ℕ)
+  pub key : Labels
+
+-- what the words ask: first the string, then the wanted list, then the apex and the domain
+abbrev pub Asks : List (List ℕ) → AppName → ℕ → Option ℕ → Option ℕ → Result Asked Cause → Type 0
+Asks words app string want apex =
+    Then (Strings app (text_at words string)) (λ original.
+    Then (Wants app (option_map (text_at words) want)) (λ wanted.
+    Then (Keys app (text_at words string) (option_map (text_at words) apex)) (λ domain result.
+    result ≡ Ok (record { string = original; want = wanted; key = domain }))))

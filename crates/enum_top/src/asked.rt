@@ -1,0 +1,133 @@
+//! What the words ask of the zones.
+ghost use Rattle.std.specs.Prelude.{◌≡◌, Some, IfOk, option_map};
+ghost use Rattle.enum_app.specs.Number.{digits_of, key_labels};
+ghost use Rattle.enum_top.specs.Applications.{Apexes, Asks, Strings, Wants, Numbered, fitting};
+ghost use Rattle.enum_top.specs.Running.{asked_in, string_in, wanted_in};
+ghost use Rattle.request_words.specs.Words.{text_at, texts_of};
+
+use crate::cause::Cause;
+use dns_name::Name;
+use enum_app::{Number, default_apex};
+use enum_base::Text255;
+use request_words::{AppName, text_at};
+use service_field::{Wanted, want_enum};
+
+/// The original string of an application, the services that are wanted, and the domain that the walk begins at.
+#[derive(Clone, Copy, Debug)]
+pub struct Asked<'a> {
+    pub string: Text255,
+    pub wanted: Wanted<'a>,
+    pub key: Name,
+}
+
+/// Reads what the words ask: the string, the wanted list, the apex and the domain, of which the first that is
+/// ill-formed is told. Takes no memory.
+pub fn read_asked(
+    words: &[String],
+    app: AppName,
+    string: usize,
+    want: Option<usize>,
+    apex: Option<usize>,
+) -> Result<Asked<'_>, Cause>
+    ensures { Asks (texts_of words.now) app string want apex (asked_in result) }
+{
+    match app {
+        AppName::Enum => ask_number(words, string, want, apex),
+    }
+}
+
+// A telephone number.
+fn ask_number(
+    words: &[String],
+    string: usize,
+    want: Option<usize>,
+    apex: Option<usize>,
+) -> Result<Asked<'_>, Cause>
+    ensures { Asks (texts_of words.now) AppName.Enum string want apex (asked_in result) }
+{
+    let number = match read_number(text_at(words, string).as_bytes()) {
+        Ok(number) => number,
+        Err(cause) => return Err(cause),
+    };
+    let wanted = match read_wanted(AppName::Enum, words, want) {
+        Ok(wanted) => wanted,
+        Err(cause) => return Err(cause),
+    };
+    let key = match read_key(&number, words, apex) {
+        Ok(key) => key,
+        Err(cause) => return Err(cause),
+    };
+    Ok(Asked {
+        string: number.aus(),
+        wanted,
+        key,
+    })
+}
+
+fn read_number(text: &[u8]) -> Result<Number, Cause>
+    ensures string { Strings AppName.Enum text.now (string_in result) }
+    ensures digits { IfOk result (λ number. number ≡ digits_of text.now) }
+{
+    match Number::parse(text) {
+        Ok(number) => Ok(number),
+        Err(fault) => Err(Cause::Number(fault)),
+    }
+}
+
+// The wanted services of the list at a place; any where there is no list.
+fn read_wanted(app: AppName, words: &[String], want: Option<usize>) -> Result<Wanted<'_>, Cause>
+    ensures { Wants app (option_map (text_at (texts_of words.now)) want) (wanted_in result) }
+{
+    match want {
+        Some(place) => read_list(app, text_at(words, place).as_bytes()),
+        None => Ok(Wanted::Any),
+    }
+}
+
+fn read_list(app: AppName, list: &[u8]) -> Result<Wanted<'_>, Cause>
+    ensures { Wants app (Some list.now) (wanted_in result) }
+{
+    let wanted = match app {
+        AppName::Enum => want_enum(list),
+    };
+    match wanted {
+        Ok(wanted) => Ok(wanted),
+        Err(fault) => Err(Cause::Want(fault)),
+    }
+}
+
+// The domain of a number under the apex at a place.
+fn read_key(number: &Number, words: &[String], apex: Option<usize>) -> Result<Name, Cause>
+    ensures { Numbered number.now (option_map (text_at (texts_of words.now)) apex) result }
+{
+    let top = read_apex(words, apex)?;
+    key_under(number, &top)
+}
+
+// The apex at a place; `e164.arpa.` where there is none.
+fn read_apex(words: &[String], apex: Option<usize>) -> Result<Name, Cause>
+    ensures { Apexes (option_map (text_at (texts_of words.now)) apex) result }
+{
+    match apex {
+        Some(place) => read_name(text_at(words, place).as_bytes()),
+        None => Ok(default_apex()),
+    }
+}
+
+fn read_name(text: &[u8]) -> Result<Name, Cause>
+    ensures { Apexes (Some text.now) result }
+{
+    match Name::from_text(text, Some(&Name::root())) {
+        Ok(name) => Ok(name),
+        Err(fault) => Err(Cause::Apex(fault)),
+    }
+}
+
+fn key_under(number: &Number, apex: &Name) -> Result<Name, Cause>
+    ensures { result ≡ fitting (key_labels number.now apex.now) }
+{
+    match number.key(apex) {
+        Ok(key) => Ok(key),
+        Err(_) => Err(Cause::Key),
+    }
+}

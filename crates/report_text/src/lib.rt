@@ -1,0 +1,6 @@
+//! Reports as text: a line for each end, or a loop with its edges.
+#![tactic(auto)]
+
+mod report;
+
+pub use report::print_report;

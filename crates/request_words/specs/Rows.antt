@@ -1,0 +1,34 @@
+-- The table of commands (this project's own): each row is the first words of a command, how many words follow them, and its
+-- options.
+use Rattle.std.specs.Prelude.{ℕ, List, [], ◌∷◌, codes}
+use Rattle.request_words.specs.declared.option.Choice.{Choice}
+use Rattle.request_words.specs.declared.option.OptionName.{OptionName}
+use Rattle.request_words.specs.declared.option.OptionName.TheVariants.{Want, Apex, Zones}
+use Rattle.request_words.specs.declared.request.AppName.{AppName}
+use Rattle.request_words.specs.declared.request.AppName.TheVariants.{Enum}
+
+-- a row of the table
+pub record Row : Type 0 where
+  pub heads : List (List ℕ)
+  pub arguments : ℕ
+  pub choices : List Choice
+
+-- the word of an option
+abbrev pub option_word : OptionName → List ℕ
+option_word Want = codes "--want"
+option_word Apex = codes "--apex"
+option_word Zones = codes "--zones"
+
+-- the word of an application
+abbrev pub app_word : AppName → List ℕ
+app_word Enum = codes "enum"
+
+-- the options of `resolve`
+abbrev pub resolve_choices : AppName → List Choice
+resolve_choices Enum =
+    (record { option = Want; least = 0; most = 1 }) ∷ (record { option = Apex; least = 0; most = 1 })
+    ∷ (record { option = Zones; least = 1; most = 64 }) ∷ []
+
+-- `resolve APP STRING`
+abbrev pub resolve_row : AppName → Row
+resolve_row app = record { heads = codes "resolve" ∷ app_word app ∷ []; arguments = 1; choices = resolve_choices app }
