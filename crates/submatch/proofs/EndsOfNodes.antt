@@ -1,5 +1,5 @@
 -- The ends of each kind of part.
-use Rattle.std.proofs.Common.{◌≡◌, ℕ, zero, suc, ◌+◌, ◌<◌, ◌≤◌, ◌⊎◌, inl, inr, refl, sym, ◌∙◌, subst, ap, arith, Bool, true, false, List, [], length, Contains, IsTrue, Option, slice_get, get_or, Some}
+use Rattle.std.proofs.Common.{◌≡◌, ℕ, zero, suc, ◌+◌, ◌<◌, ◌≤◌, ◌⊎◌, inl, inr, refl, sym, ◌∙◌, subst, ap, arith, Bool, true, false, List, length, IsTrue, Option, slice_get, slice_index, get_or, Some}
 use Rattle.std.proofs.Math.Dec.{ltb}
 use Rattle.std.proofs.lemmas.List.{get_or_default}
 use Rattle.std.proofs.lemmas.Option.{slice_get_read, slice_get_within}
@@ -10,10 +10,12 @@ use Rattle.posix_ere.specs.Nodes.{node_of}
 use Rattle.posix_ere.specs.declared.node.Node.{Node}
 use Rattle.posix_ere.specs.declared.node.Node.TheVariants.{Alt, Branch, Byte, Any, Set, Start, End, Group, Rep}
 use Rattle.submatch.specs.Bytes.{CoversByte}
-use Rattle.submatch.specs.Parses.{Parses, no_more, next, IsOneParse, IsAlone, IsParse, ArePieces, IsBranch, AreIterations}
-use Rattle.submatch.specs.Places.{AddsPlaces, AreEnds, IsAllowed}
-use Rattle.submatch.specs.Ends.{Reaches, RowReaches, BranchReaches, takes_byte}
-use Rattle.submatch.proofs.Adding.{renamed_ends}
+use Rattle.submatch.specs.Parses.{Parses, no_more, next, IsAlone, IsParse, IsBranch}
+use Rattle.submatch.specs.Rows.{Row, AreEnds, IsColumn}
+use Rattle.submatch.specs.Table.{TableValue, LeadsSome, column_at, part_at}
+use Rattle.submatch.specs.Ends.{Reaches, RowReaches, IsLeaf, takes_byte}
+use Rattle.submatch.proofs.ColumnLemmas.{renamed_ends, renamed_column}
+use Rattle.submatch.proofs.EndsOfRows.{Pieces, Iterations}
 
 pub is_start : (t : Tree) → node_of t ≡ Start → t ≡ atom start
 is_start (atom (byte b)) e = cc e
@@ -96,7 +98,7 @@ IsByteNode (Set negated) = Unit {0}
 IsByteNode _ = ⊥
 
 module _ (fold : Bool) (w : List ℕ) where
-  pub ends_of_start : (t : Tree) (from : ℕ) (places : List ℕ) (Holds : Type 0) → node_of t ≡ Start → (Holds → from ≡ 0) → (from ≡ 0 → Holds) →
+  pub ends_of_start : (t : Tree) (from : ℕ) (places : Row) (Holds : Type 0) → node_of t ≡ Start → (Holds → from ≡ 0) → (from ≡ 0 → Holds) →
       AreEnds (λ j. Holds × (from ≡ j)) places → AreEnds (Reaches (IsParse fold w t) from) places
   ends_of_start t from places Holds e there back ends =
       subst (λ x. AreEnds (Reaches (IsParse fold w x) from) places) (sym (is_start t e))
@@ -104,7 +106,7 @@ module _ (fold : Bool) (w : List ℕ) where
       (λ j h. (0, no_more, ((there h.0, sym h.1 ∙ there h.0), refl, refl)))
       (λ j h. (back h.2.0.0, h.2.0.0 ∙ sym h.2.0.1)) ends)
 
-  pub ends_of_end : (t : Tree) (from : ℕ) (places : List ℕ) (Holds : Type 0) → node_of t ≡ End → (Holds → from ≡ length w) → (from ≡ length w → Holds) →
+  pub ends_of_end : (t : Tree) (from : ℕ) (places : Row) (Holds : Type 0) → node_of t ≡ End → (Holds → from ≡ length w) → (from ≡ length w → Holds) →
       AreEnds (λ j. Holds × (from ≡ j)) places → AreEnds (Reaches (IsParse fold w t) from) places
   ends_of_end t from places Holds e there back ends =
       subst (λ x. AreEnds (Reaches (IsParse fold w x) from) places) (sym (is_end t e))
@@ -112,7 +114,7 @@ module _ (fold : Bool) (w : List ℕ) where
       (λ j h. (0, no_more, ((there h.0, sym h.1 ∙ there h.0), refl, refl)))
       (λ j h. (back h.2.0.0, h.2.0.0 ∙ sym h.2.0.1)) ends)
 
-  pub byte_ends : (t : Tree) (from : ℕ) (places : List ℕ) → IsByteNode (node_of t) →
+  pub byte_ends : (t : Tree) (from : ℕ) (places : Row) → IsByteNode (node_of t) →
       AreEnds (CoversByte (takes_byte fold t) w from) places → AreEnds (Reaches (IsParse fold w t) from) places
   byte_ends (atom (byte b)) from places h ends = renamed_ends _ _ places (λ j k. (0, no_more, (k, refl, refl))) (λ j k. k.2.0) ends
   byte_ends (atom any) from places h ends = renamed_ends _ _ places (λ j k. (0, no_more, (k, refl, refl))) (λ j k. k.2.0) ends
@@ -126,7 +128,7 @@ module _ (fold : Bool) (w : List ℕ) where
   byte_ends (rep m n t) from places h ends = absurd h
 
   -- a row of one parse is that parse
-  alone_to : (t : Tree) (i j : ℕ) → RowReaches (IsAlone (IsParse fold w t)) i j → Reaches (IsParse fold w t) i j
+  pub alone_to : (t : Tree) (i j : ℕ) → RowReaches (IsAlone (IsParse fold w t)) i j → Reaches (IsParse fold w t) i j
   alone_to t i j h = of_row h.0 h.1
     where
       of_row : (ps : Parses) → IsAlone (IsParse fold w t) i j ps → Reaches (IsParse fold w t) i j
@@ -136,34 +138,27 @@ module _ (fold : Bool) (w : List ℕ) where
   alone_from : (t : Tree) (i j : ℕ) → Reaches (IsParse fold w t) i j → RowReaches (IsAlone (IsParse fold w t)) i j
   alone_from t i j h = (next j h.0 h.1 no_more, (h.2, (refl, refl)))
 
-  pub ends_of_group : (t : Tree) (g from : ℕ) (places : List ℕ) → node_of t ≡ Group g →
-      AreEnds (Reaches (IsParse fold w (part (parts_of t) 0)) from) places → AreEnds (Reaches (IsParse fold w t) from) places
-  ends_of_group t g from places e ends =
-      subst (λ x. AreEnds (Reaches (IsParse fold w x) from) places) (sym (is_group t g e))
-      (renamed_ends (Reaches (IsParse fold w (part (parts_of t) 0)) from) (Reaches (IsParse fold w (group g (part (parts_of t) 0))) from) places
-      (λ j h. let row = alone_from (part (parts_of t) 0) from j h in (0, row.0, (refl, row.1)))
-      (λ j h. alone_to (part (parts_of t) 0) from j (h.1, h.2.1)) ends)
+  pub column_of_group : (t : Tree) (g : ℕ) (rows : List Row) → node_of t ≡ Group g →
+      IsColumn (length w) (Reaches (IsParse fold w (part (parts_of t) 0))) rows → IsColumn (length w) (Reaches (IsParse fold w t)) rows
+  column_of_group t g rows e column =
+      subst (λ x. IsColumn (length w) (Reaches (IsParse fold w x)) rows) (sym (is_group t g e))
+      (renamed_column (length w) (Reaches (IsParse fold w (part (parts_of t) 0))) (Reaches (IsParse fold w (group g (part (parts_of t) 0)))) rows
+      (λ i j within h. let row = alone_from (part (parts_of t) 0) i j h in (0, row.0, (refl, row.1)))
+      (λ i j within h. alone_to (part (parts_of t) 0) i j (h.1, h.2.1)) column)
 
-  pub ends_of_branch : (t : Tree) (from : ℕ) (places : List ℕ) → node_of t ≡ Branch →
-      AreEnds (RowReaches (ArePieces fold w (parts_of t)) from) places → AreEnds (Reaches (IsParse fold w t) from) places
-  ends_of_branch t from places e ends =
-      subst (λ x. AreEnds (Reaches (IsParse fold w x) from) places) (sym (is_branch t e))
-      (renamed_ends (RowReaches (ArePieces fold w (parts_of t)) from) (Reaches (IsParse fold w (branch (parts_of t))) from) places
-      (λ j h. (0, h.0, (refl, h.1))) (λ j h. (h.1, h.2.1)) ends)
+  pub column_of_branch : (t : Tree) (rows : List Row) → node_of t ≡ Branch →
+      IsColumn (length w) (Pieces fold w (parts_of t) 0) rows → IsColumn (length w) (Reaches (IsParse fold w t)) rows
+  column_of_branch t rows e column =
+      subst (λ x. IsColumn (length w) (Reaches (IsParse fold w x)) rows) (sym (is_branch t e))
+      (renamed_column (length w) (Pieces fold w (parts_of t) 0) (Reaches (IsParse fold w (branch (parts_of t)))) rows
+      (λ i j within h. (0, h.0, (refl, h.1))) (λ i j within h. (h.1, h.2.1)) column)
 
-  pub ends_of_rep : (t : Tree) (m : ℕ) (n : Option ℕ) (from : ℕ) (places : List ℕ) → node_of t ≡ Rep m n →
-      AreEnds (RowReaches (AreIterations (IsParse fold w (part (parts_of t) 0)) m n 0) from) places →
-      AreEnds (Reaches (IsParse fold w t) from) places
-  ends_of_rep t m n from places e ends =
-      let One : IsOneParse = IsParse fold w (part (parts_of t) 0) in
-      subst (λ x. AreEnds (Reaches (IsParse fold w x) from) places) (sym (is_rep t m n e))
-      (renamed_ends (RowReaches (AreIterations One m n 0) from) (Reaches (IsParse fold w (rep m n (part (parts_of t) 0))) from) places
-      (λ j h. (0, h.0, (refl, h.1))) (λ j h. (h.1, h.2.1)) ends)
-
-  pub ends_of_alt : (t : Tree) (from : ℕ) (places : List ℕ) → node_of t ≡ Alt →
-      AreEnds (BranchReaches fold w (parts_of t) from) places → AreEnds (Reaches (IsParse fold w t) from) places
-  ends_of_alt t from places e ends =
-      subst (λ x. AreEnds (Reaches (IsParse fold w x) from) places) (sym (is_alt t e)) ends
+  pub column_of_rep : (t : Tree) (m : ℕ) (n : Option ℕ) (rows : List Row) → node_of t ≡ Rep m n →
+      IsColumn (length w) (Iterations fold w (part (parts_of t) 0) m n 0) rows → IsColumn (length w) (Reaches (IsParse fold w t)) rows
+  column_of_rep t m n rows e column =
+      subst (λ x. IsColumn (length w) (Reaches (IsParse fold w x)) rows) (sym (is_rep t m n e))
+      (renamed_column (length w) (Iterations fold w (part (parts_of t) 0) m n 0) (Reaches (IsParse fold w (rep m n (part (parts_of t) 0)))) rows
+      (λ i j within h. (0, h.0, (refl, h.1))) (λ i j within h. (h.1, h.2.1)) column)
 
   -- branch number k alone, where there is one
   pub branch_to : (ts : Trees) (k i j : ℕ) (ps : Parses) → IsBranch fold w ts k i j ps → IsAlone (IsParse fold w (part ts k)) i j ps
@@ -181,55 +176,52 @@ module _ (fold : Bool) (w : List ℕ) where
   branch_counted (more t ts) zero i j ps h = omega arith
   branch_counted (more t ts) (suc k) i j ps h = let less : k < count_of ts = branch_counted ts k i j ps h in omega arith
 
-  -- some branch before number k has a parse that covers the text from i to j
-  pub record IsBranchBefore (ts : Trees) (k i j : ℕ) : Type 0 where
-    pub number : ℕ
-    pub before : number < k
-    pub row : Parses
-    pub holds : IsBranch fold w ts number i j row
+  -- one branch alone
+  pub column_of_single : (t : Tree) (rows : List Row) → node_of t ≡ Alt → count_of (parts_of t) ≡ 1 →
+      IsColumn (length w) (Reaches (IsParse fold w (part (parts_of t) 0))) rows → IsColumn (length w) (Reaches (IsParse fold w t)) rows
+  column_of_single t rows e one column =
+      subst (λ x. IsColumn (length w) (Reaches (IsParse fold w x)) rows) (sym (is_alt t e))
+      (renamed_column (length w) (Reaches (IsParse fold w (part (parts_of t) 0))) (Reaches (IsParse fold w (alt (parts_of t)))) rows
+      (λ i j within h. let row = alone_from (part (parts_of t) 0) i j h in
+      (0, row.0, branch_from (parts_of t) 0 i j row.0 (omega arith) row.1))
+      (λ i j within h.
+      let less : h.0 < count_of (parts_of t) = branch_counted (parts_of t) h.0 i j h.1 h.2 in
+      let first : h.0 ≡ 0 = omega arith in
+      alone_to (part (parts_of t) 0) i j (h.1, branch_to (parts_of t) 0 i j h.1 (subst (λ x. IsBranch fold w (parts_of t) x i j h.1) first h.2)))
+      column)
 
-  pub branches_none : (ts : Trees) (from : ℕ) → AreEnds (IsBranchBefore ts 0 from) []
-  branches_none ts from = record {
-    each = λ j h. let less : h.0 < 0 = h.1 in absurd (omega arith);
-    all = λ j h. let less : h.number < 0 = h.before in absurd (omega arith);
-  }
+  -- no branch
+  pub no_branches : (t : Tree) → node_of t ≡ Alt → count_of (parts_of t) ≡ 0 → (i j : ℕ) → Reaches (IsParse fold w t) i j → ⊥
+  no_branches t e zero_count i j h =
+      let r : Reaches (IsParse fold w (alt (parts_of t))) i j = subst (λ x. Reaches (IsParse fold w x) i j) (is_alt t e) h in
+      let less : r.0 < count_of (parts_of t) = branch_counted (parts_of t) r.0 i j r.1 r.2 in omega arith
 
-  pub branches_next : (ts : Trees) (k from : ℕ) (mid new ends : List ℕ) → k < count_of ts →
-      AreEnds (Reaches (IsParse fold w (part ts k)) from) ends → AddsPlaces (λ j. IsAllowed true from j × Contains ends j) mid new →
-      AreEnds (IsBranchBefore ts k from) mid → AreEnds (IsBranchBefore ts (k + 1) from) new
-  branches_next ts k from mid new ends less here now before = record {
-    each = λ j h. elim (now.each j h) [
-      | inl old ↦ let b : IsBranchBefore ts k from j = before.each j old in
-          record { number = b.number; before = omega (arith, b.before); row = b.row; holds = b.holds }
-      | inr found ↦ let row = alone_from (part ts k) from j (here.each j found.1) in
-          record { number = k; before = omega arith; row = row.0; holds = branch_from ts k from j row.0 less row.1 }
-    ];
-    all = λ j b. elim (before_or_at b.number k b.before) [
-      | inl earlier ↦ now.kept j (before.all j (record { number = b.number; before = earlier; row = b.row; holds = b.holds }))
-      | inr same ↦ now.added j (
-        (λ e. refl),
-        here.all j (alone_to (part ts k) from j
-            (b.row, branch_to ts k from j b.row (subst (λ x. IsBranch fold w ts x from j b.row) same b.holds))),
-      )
-    ];
-  }
-    where
-      before_or_at : (a k : ℕ) → a < k + 1 → (a < k) ⊎ (a ≡ k)
-      before_or_at a k h = grind arith
-
-  pub branches_all : (ts : Trees) (k from : ℕ) (places : List ℕ) → k ≡ count_of ts → AreEnds (IsBranchBefore ts k from) places →
-      AreEnds (BranchReaches fold w ts from) places
-  branches_all ts k from places e ends = record {
-    each = λ j h. let b : IsBranchBefore ts k from j = ends.each j h in (b.number, b.row, b.holds);
-    all = λ j h. let less : h.0 < count_of ts = branch_counted ts h.0 from j h.1 h.2 in
-        ends.all j (record { number = h.0; before = omega arith; row = h.1; holds = h.2 });
-  }
+  -- all branches
+  pub column_of_alt : (t : Tree) (T : TableValue) (inside : List ℕ) (n : ℕ) (rows : List Row) → node_of t ≡ Alt → n ≡ count_of (parts_of t) →
+      ((k : ℕ) → k < count_of (parts_of t) →
+      IsColumn (length w) (Reaches (IsParse fold w (part (parts_of t) k))) (column_at T (part_at T (slice_index inside k)).own)) →
+      IsColumn (length w) (λ i j. LeadsSome T inside n i j) rows → IsColumn (length w) (Reaches (IsParse fold w t)) rows
+  column_of_alt t T inside n rows e count each column =
+      subst (λ x. IsColumn (length w) (Reaches (IsParse fold w x)) rows) (sym (is_alt t e))
+      (renamed_column (length w) (λ i j. LeadsSome T inside n i j) (Reaches (IsParse fold w (alt (parts_of t)))) rows
+      (λ i j within h.
+      let less : h.number < count_of (parts_of t) = subst (λ x. h.number < x) count h.among in
+      let row = alone_from (part (parts_of t) h.number) i j ((each h.number less).each i j h.leads) in
+      (h.number, row.0, branch_from (parts_of t) h.number i j row.0 less row.1))
+      (λ i j within h.
+      let less : h.0 < count_of (parts_of t) = branch_counted (parts_of t) h.0 i j h.1 h.2 in
+      record {
+        number = h.0;
+        among = subst (λ x. h.0 < x) (sym count) less;
+        leads = (each h.0 less).all i j within (alone_to (part (parts_of t) h.0) i j (h.1, branch_to (parts_of t) h.0 i j h.1 h.2));
+      })
+      column)
 
 -- the byte at a place in the text
 byte_at : (w : List ℕ) (i b d : ℕ) → i < length w → b ≡ get_or w i d → slice_get w i ≡ Some b
 byte_at w i b d inside e = slice_get_read w (length w) i b refl inside (e ∙ get_or_default w i d b inside)
 
-pub end_after_byte : (test : ℕ → Bool) (w : List ℕ) (i at b d : ℕ) (taken : Bool) (places : List ℕ) → at ≡ i →
+pub end_after_byte : (test : ℕ → Bool) (w : List ℕ) (i at b d : ℕ) (taken : Bool) (places : Row) → at ≡ i →
     true ≡ ltb at (length w) → b ≡ get_or w at d → taken ≡ test b →
     AreEnds (λ j. IsTrue taken × (i + 1 ≡ j)) places → AreEnds (CoversByte test w i) places
 end_after_byte test w i at b d taken places same inside read passed ends =
@@ -239,7 +231,7 @@ end_after_byte test w i at b d taken places same inside read passed ends =
     (λ j h. (sym h.1, b, here, sym passed ∙ h.0))
     (λ j h. let e : b ≡ h.1 = cc (here, h.2) in (passed ∙ subst (λ x. test x ≡ true) (sym e) h.3, sym h.0)) ends
 
-pub no_end_after : (test : ℕ → Bool) (w : List ℕ) (i at : ℕ) (places : List ℕ) → at ≡ i → false ≡ ltb at (length w) →
+pub no_end_after : (test : ℕ → Bool) (w : List ℕ) (i at : ℕ) (places : Row) → at ≡ i → false ≡ ltb at (length w) →
     AreEnds (λ j. IsTrue false × (i ≡ j)) places → AreEnds (CoversByte test w i) places
 no_end_after test w i at places same over ends =
     let past : length w ≤ i = subst (λ x. length w ≤ x) same (ltb-false at (length w) (sym over)) in
@@ -251,3 +243,17 @@ pub is_byte_node : (n : Node) → ((b : ℕ) × (n ≡ Byte b)) ⊎ ((n ≡ Any)
 is_byte_node n (inl h) = subst IsByteNode (sym h.1) tt
 is_byte_node n (inr (inl h)) = subst IsByteNode (sym h) tt
 is_byte_node n (inr (inr h)) = subst IsByteNode (sym h.1) tt
+
+-- no part for a byte or a place
+pub not_leaf : (n : Node) → (n ≡ Alt) ⊎ ((n ≡ Branch) ⊎ (((g : ℕ) × (n ≡ Group g)) ⊎ ((m : ℕ) × (o : Option ℕ) × (n ≡ Rep m o)))) → IsLeaf n → ⊥
+not_leaf n (inl e) h = subst IsLeaf e h
+not_leaf n (inr (inl e)) h = subst IsLeaf e h
+not_leaf n (inr (inr (inl e))) h = subst IsLeaf e.1 h
+not_leaf n (inr (inr (inr e))) h = subst IsLeaf e.2 h
+
+pub is_leaf : (n : Node) → ((b : ℕ) × (n ≡ Byte b)) ⊎ ((n ≡ Any) ⊎ (((negated : Bool) × (n ≡ Set negated)) ⊎ ((n ≡ Start) ⊎ (n ≡ End)))) → IsLeaf n
+is_leaf n (inl h) = subst IsLeaf (sym h.1) tt
+is_leaf n (inr (inl h)) = subst IsLeaf (sym h) tt
+is_leaf n (inr (inr (inl h))) = subst IsLeaf (sym h.1) tt
+is_leaf n (inr (inr (inr (inl h)))) = subst IsLeaf (sym h) tt
+is_leaf n (inr (inr (inr (inr h)))) = subst IsLeaf (sym h) tt

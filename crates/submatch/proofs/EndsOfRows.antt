@@ -1,62 +1,13 @@
--- The ends of pieces and of iterations, gone over from the first on.
-use Rattle.std.proofs.Common.{◌≡◌, ℕ, zero, suc, ◌+◌, ◌<◌, ◌≤◌, max, ◌⊎◌, inl, inr, refl, sym, subst, arith, Bool, true, List, [], length, Contains, IsTrue, Option, Some, None}
+-- The ends of pieces and of iterations, one before what is left of them.
+use Rattle.std.proofs.Common.{◌≡◌, ℕ, zero, suc, ◌+◌, ◌<◌, ◌≤◌, max, ◌⊎◌, inl, inr, refl, sym, ◌∙◌, subst, arith, Bool, true, false, List, [], length, set, IsTrue, Option, Some, None}
+use Rattle.std.proofs.lemmas.List.{get_or-set_same, get_or-set_other, length-set}
 use Rattle.posix_ere.specs.Tree.{Tree, Trees, none, more}
 use Rattle.posix_ere.specs.Parts.{count_of, part}
 use Rattle.submatch.specs.Parses.{Parses, no_more, next, IsParse, ArePieces, IsBelow, AreIterations}
-use Rattle.submatch.specs.Places.{AddsPlaces, AreEnds, IsStep, IsAllowed}
+use Rattle.submatch.specs.Rows.{Row, Has, AreEnds, Leads, IsColumn, AreForward, IsAllowed, IsThrough, StopsOrGoes}
 use Rattle.submatch.specs.Ends.{Reaches, RowReaches, parts_from}
 use Rattle.submatch.proofs.Ends.{IsWithin, parse_within}
-use Rattle.submatch.proofs.Adding.{one_place}
-
--- what is left of the whole leads on from these places, all of which are in the text
-pub record AreLedTo (Whole : ℕ → Type 0) (Rest : ℕ → ℕ → Type 0) (w : ℕ) (now : List ℕ) : Type 0 where
-  pub sound : (p j : ℕ) → Contains now p → Rest p j → Whole j
-  pub complete : (j : ℕ) → Whole j → IsStep Rest now j
-  pub inside : (p : ℕ) → Contains now p → p ≤ w
-
-pub led_start : (Rest : ℕ → ℕ → Type 0) (w from : ℕ) (now : List ℕ) → from ≤ w → AddsPlaces (λ j. from ≡ j) [] now →
-    AreLedTo (Rest from) Rest w now
-led_start Rest w from now within h =
-    let ends : AreEnds (λ j. from ≡ j) now = one_place from now h in
-    record {
-      sound = λ p j there rest. subst (λ x. Rest x j) (sym (ends.each p there)) rest;
-      complete = λ j whole. record { from = from; there = ends.all from refl; leads = whole };
-      inside = λ p there. subst (λ x. x ≤ w) (ends.each p there) within;
-    }
-
--- one step and then the rest
-pub record IsStepThen (P Rest : ℕ → ℕ → Type 0) (i j : ℕ) : Type 0 where
-  pub at : ℕ
-  pub first : P i at
-  pub others : Rest at j
-
-pub led_next : (Whole : ℕ → Type 0) (Rest P Later : ℕ → ℕ → Type 0) (w : ℕ) (now new : List ℕ) →
-    ((i j : ℕ) → Rest i j → IsStepThen P Later i j) → ((i j : ℕ) → IsStepThen P Later i j → Rest i j) →
-    ((i j : ℕ) → i ≤ w → P i j → j ≤ w) →
-    AreLedTo Whole Rest w now → AreEnds (IsStep P now) new → AreLedTo Whole Later w new
-led_next Whole Rest P Later w now new split join within led ends = record {
-  sound = λ p j there rest. let s : IsStep P now p = ends.each p there in
-      led.sound s.from j s.there (join s.from j (record { at = p; first = s.leads; others = rest }));
-  complete = λ j whole. let s : IsStep Rest now j = led.complete j whole in
-      let t : IsStepThen P Later s.from j = split s.from j s.leads in
-      record { from = t.at; there = ends.all t.at (record { from = s.from; there = s.there; leads = t.first }); leads = t.others };
-  inside = λ p there. let s : IsStep P now p = ends.each p there in within s.from p (led.inside s.from s.there) s.leads;
-}
-
-pub led_end : (Whole : ℕ → Type 0) (Rest : ℕ → ℕ → Type 0) (w : ℕ) (now : List ℕ) →
-    ((i j : ℕ) → Rest i j → i ≡ j) → ((i : ℕ) → Rest i i) → AreLedTo Whole Rest w now → AreEnds Whole now
-led_end Whole Rest w now stops here led = record {
-  each = λ j there. led.sound j j there (here j);
-  all = λ j whole. let s : IsStep Rest now j = led.complete j whole in
-      subst (λ x. Contains now x) (stops s.from j s.leads) s.there;
-}
-
--- a step with a part, where empties are allowed
-abbrev pub Step : Bool → List ℕ → Bool → Tree → ℕ → ℕ → Type 0
-Step fold w empties t i j = IsAllowed empties i j × Reaches (IsParse fold w t) i j
-
-pub step_inside : (fold : Bool) (w : List ℕ) (empties : Bool) (t : Tree) (i j : ℕ) → i ≤ length w → Step fold w empties t i j → j ≤ length w
-step_inside fold w empties t i j within s = (parse_within fold w t i j s.1.0 s.1.1 s.1.2).inside within
+use Rattle.submatch.proofs.ColumnLemmas.{renamed_column, leads_at, leads_has, leads_inside}
 
 -- the parts from k on, where there are some
 pub parts_split : (k : ℕ) (ts : Trees) → k < count_of ts → parts_from k ts ≡ more (part ts k) (parts_from (suc k) ts)
@@ -68,192 +19,290 @@ pub parts_end : (ts : Trees) → parts_from (count_of ts) ts ≡ none
 parts_end none = refl
 parts_end (more t ts) = parts_end ts
 
+-- one part and then what is left
+pub record IsStepThen (One Rest : ℕ → ℕ → Type 0) (empties : Bool) (i j : ℕ) : Type 0 where
+  pub at : ℕ
+  pub first : One i at
+  pub allowed : IsAllowed empties i at
+  pub others : Rest at j
+
+-- a column of the ends of a part goes on forward
+pub forward_column : (fold : Bool) (w : List ℕ) (t : Tree) (rows : List Row) → IsColumn (length w) (Reaches (IsParse fold w t)) rows →
+    AreForward (length w) rows
+forward_column fold w t rows column i j h =
+    let inside : i < length rows = leads_inside rows i j h in
+    let short : length rows ≤ length w + 1 = column.short in
+    let r = column.each i j h in
+    let e : IsWithin (length w) i j = parse_within fold w t i j r.0 r.1 r.2 in
+    (e.forward, e.inside (omega arith))
+
+module _ (fold : Bool) (w : List ℕ) (t : Tree) (Rest : ℕ → ℕ → Type 0) (empties : Bool) (part rest : List Row) where
+  -- going through both columns is one step and then the rest
+  pub through_to : IsColumn (length w) (Reaches (IsParse fold w t)) part → IsColumn (length w) Rest rest → (i j : ℕ) →
+      IsThrough empties part rest i j → IsStepThen (Reaches (IsParse fold w t)) Rest empties i j
+  through_to one others i j h = record {
+    at = h.at;
+    first = one.each i h.at h.leads;
+    allowed = h.allowed;
+    others = others.each h.at j h.others;
+  }
+
+  pub through_from : IsColumn (length w) (Reaches (IsParse fold w t)) part → IsColumn (length w) Rest rest → (i j : ℕ) → i ≤ length w →
+      IsStepThen (Reaches (IsParse fold w t)) Rest empties i j → IsThrough empties part rest i j
+  through_from one others i j within h =
+      let e : IsWithin (length w) i h.at = parse_within fold w t i h.at h.first.0 h.first.1 h.first.2 in
+      record {
+        at = h.at;
+        leads = one.all i h.at within h.first;
+        allowed = h.allowed;
+        others = others.all h.at j (e.inside within) h.others;
+      }
+
 module _ (fold : Bool) (w : List ℕ) (ts : Trees) where
   -- what is left of the pieces after the first k
   abbrev pub Pieces : ℕ → ℕ → ℕ → Type 0
   Pieces k = RowReaches (ArePieces fold w (parts_from k ts))
 
-  join_more : (t : Tree) (others : Trees) (i j : ℕ) → IsStepThen (Step fold w true t) (RowReaches (ArePieces fold w others)) i j →
+  join_more : (t : Tree) (others : Trees) (i j : ℕ) → IsStepThen (Reaches (IsParse fold w t)) (RowReaches (ArePieces fold w others)) true i j →
       RowReaches (ArePieces fold w (more t others)) i j
-  join_more t others i j s = (next s.at s.first.1.0 s.first.1.1 s.others.0, (s.first.1.2, s.others.1))
+  join_more t others i j s = (next s.at s.first.0 s.first.1 s.others.0, (s.first.2, s.others.1))
 
   split_row : (t : Tree) (others : Trees) (i j : ℕ) (ps : Parses) → ArePieces fold w (more t others) i j ps →
-      IsStepThen (Step fold w true t) (RowReaches (ArePieces fold w others)) i j
+      IsStepThen (Reaches (IsParse fold w t)) (RowReaches (ArePieces fold w others)) true i j
   split_row t others i j no_more h = absurd h
   split_row t others i j (next e c a rest) h =
-      record { at = e; first = ((λ same. refl), (c, a, h.0)); others = (rest, h.1) }
+      record { at = e; first = (c, a, h.0); allowed = λ same. refl; others = (rest, h.1) }
 
-  pub split_pieces : (k : ℕ) → k < count_of ts → (i j : ℕ) → Pieces k i j → IsStepThen (Step fold w true (part ts k)) (Pieces (suc k)) i j
+  split_pieces : (k : ℕ) → k < count_of ts → (i j : ℕ) → Pieces k i j → IsStepThen (Reaches (IsParse fold w (part ts k))) (Pieces (suc k)) true i j
   split_pieces k less i j h = split_row (part ts k) (parts_from (suc k) ts) i j h.0
       (subst (λ x. ArePieces fold w x i j h.0) (parts_split k ts less) h.1)
 
-  pub join_pieces : (k : ℕ) → k < count_of ts → (i j : ℕ) → IsStepThen (Step fold w true (part ts k)) (Pieces (suc k)) i j → Pieces k i j
+  join_pieces : (k : ℕ) → k < count_of ts → (i j : ℕ) → IsStepThen (Reaches (IsParse fold w (part ts k))) (Pieces (suc k)) true i j → Pieces k i j
   join_pieces k less i j s = subst (λ x. RowReaches (ArePieces fold w x) i j) (sym (parts_split k ts less))
       (join_more (part ts k) (parts_from (suc k) ts) i j s)
 
-  pub pieces_next : (k : ℕ) (Whole : ℕ → Type 0) (now new : List ℕ) → k < count_of ts → AreLedTo Whole (Pieces k) (length w) now →
-      AreEnds (IsStep (Step fold w true (part ts k)) now) new → AreLedTo Whole (Pieces (k + 1)) (length w) new
-  pieces_next k Whole now new less led ends =
-      let e : k + 1 ≡ suc k = omega arith in
-      subst (λ x. AreLedTo Whole (Pieces x) (length w) new) (sym e)
-      (led_next Whole (Pieces k) (Step fold w true (part ts k)) (Pieces (suc k)) (length w) now new
-      (split_pieces k less) (join_pieces k less) (step_inside fold w true (part ts k)) led ends)
+  -- one piece more, before the others
+  pub pieces_column : (k : ℕ) (one rest new : List Row) → k < count_of ts → IsColumn (length w) (Reaches (IsParse fold w (part ts k))) one →
+      IsColumn (length w) (Pieces (suc k)) rest → IsColumn (length w) (StopsOrGoes false true one rest) new → IsColumn (length w) (Pieces k) new
+  pieces_column k one rest new less first others column = renamed_column (length w) (StopsOrGoes false true one rest) (Pieces k) new
+      (λ i j within h. elim h [
+        | inl stop ↦ absurd (let e : false ≡ true = stop.0 in cc e)
+        | inr go ↦ join_pieces k less i j (through_to fold w (part ts k) (Pieces (suc k)) true one rest first others i j go)
+      ])
+      (λ i j within h. inr (through_from fold w (part ts k) (Pieces (suc k)) true one rest first others i j within (split_pieces k less i j h)))
+      column
 
-  none_stops : (i j : ℕ) → RowReaches (ArePieces fold w none) i j → i ≡ j
-  none_stops i j h = h.1.0
+  -- the last piece alone
+  pub last_piece : (k : ℕ) (one : List Row) → suc k ≡ count_of ts → IsColumn (length w) (Reaches (IsParse fold w (part ts k))) one →
+      IsColumn (length w) (Pieces k) one
+  last_piece k one last column = renamed_column (length w) (Reaches (IsParse fold w (part ts k))) (Pieces k) one
+      (λ i j within h. join_pieces k (omega arith) i j (record { at = j; first = h; allowed = λ same. refl; others = nothing j }))
+      (λ i j within h. ended i j (split_pieces k (omega arith) i j h))
+      column
+    where
+      nothing : (j : ℕ) → Pieces (suc k) j j
+      nothing j = subst (λ x. RowReaches (ArePieces fold w x) j j) (sym (subst (λ x. parts_from x ts ≡ none) (sym last) (parts_end ts))) (no_more, (refl, refl))
 
-  pub pieces_end : (k : ℕ) (Whole : ℕ → Type 0) (now : List ℕ) → k ≡ count_of ts → AreLedTo Whole (Pieces k) (length w) now → AreEnds Whole now
-  pieces_end k Whole now e led = led_end Whole (RowReaches (ArePieces fold w none)) (length w) now none_stops (λ i. (no_more, (refl, refl)))
-      (subst (λ x. AreLedTo Whole (RowReaches (ArePieces fold w x)) (length w) now) (subst (λ n. parts_from n ts ≡ none) (sym e) (parts_end ts)) led)
+      ended : (i j : ℕ) → IsStepThen (Reaches (IsParse fold w (part ts k))) (Pieces (suc k)) true i j → Reaches (IsParse fold w (part ts k)) i j
+      ended i j s =
+          let rest : RowReaches (ArePieces fold w none) s.at j =
+          subst (λ x. RowReaches (ArePieces fold w x) s.at j) (subst (λ x. parts_from x ts ≡ none) (sym last) (parts_end ts)) s.others in
+          subst (λ x. Reaches (IsParse fold w (part ts k)) i x) rest.1.0 s.first
 
--- After k iterations: these are the ends so far, and what is left of the whole leads on from these places. From `from` on
--- each iteration takes a byte, or is one of the first `base`.
-pub record AreCounted (Whole : ℕ → Type 0) (Rest : ℕ → ℕ → Type 0) (w from base k : ℕ) (now all : List ℕ) : Type 0 where
-  pub ended : (j : ℕ) → Contains all j → Whole j
-  pub sound : (p j : ℕ) → Contains now p → Rest p j → Whole j
-  pub complete : (j : ℕ) → Whole j → Contains all j ⊎ IsStep Rest now j
-  pub inside : (p : ℕ) → Contains now p → p ≤ w
-  pub forward : (p : ℕ) → Contains now p → from ≤ p
-  pub counted : (p : ℕ) → Contains now p → k + from ≤ base + p
+  -- no pieces
+  pub no_pieces : (rows : List Row) → count_of ts ≡ 0 → IsColumn (length w) (λ i j. IsTrue true × (i ≡ j)) rows → IsColumn (length w) (Pieces 0) rows
+  no_pieces rows e column = renamed_column (length w) (λ i j. IsTrue true × (i ≡ j)) (Pieces 0) rows
+      (λ i j within h. subst (λ x. RowReaches (ArePieces fold w x) i j) (sym empty) (no_more, (h.1, refl)))
+      (λ i j within h. (refl, (subst (λ x. RowReaches (ArePieces fold w x) i j) empty h).1.0))
+      column
+    where
+      empty : parts_from 0 ts ≡ none
+      empty = subst (λ x. parts_from x ts ≡ none) e (parts_end ts)
 
--- a list got places where a fact holds, and else stays
-pub record AddsWhere (Fact : Type 0) (P : ℕ → Type 0) (old new : List ℕ) : Type 0 where
-  pub added : Fact → AddsPlaces P old new
-  pub kept : (Fact → ⊥) → new ≡ old
-
--- a list has places where a fact holds, and else has none
-pub record EndsWhere (Fact : Type 0) (P : ℕ → Type 0) (new : List ℕ) : Type 0 where
-  pub ends : Fact → AreEnds P new
-  pub empty : (Fact → ⊥) → new ≡ []
-
-nothing_in : (j : ℕ) → Contains {X = ℕ} [] j → ⊥
-nothing_in j h = let less : h.0 < 0 = h.1 in omega arith
+  -- with a piece that never matches, the pieces never do
+  pub dead_pieces : (k n : ℕ) → k + n < count_of ts → ((i j : ℕ) → i ≤ length w → Reaches (IsParse fold w (part ts (k + n))) i j → ⊥) →
+      (i j : ℕ) → i ≤ length w → Pieces k i j → ⊥
+  dead_pieces k zero less never i j within h =
+      let e : k + zero ≡ k = omega arith in
+      let s = split_pieces k (omega arith) i j h in
+      never i s.at within (subst (λ x. Reaches (IsParse fold w (part ts x)) i s.at) (sym e) s.first)
+  dead_pieces k (suc n) less never i j within h =
+      let e : k + suc n ≡ suc k + n = omega arith in
+      let s = split_pieces k (omega arith) i j h in
+      let inside : IsWithin (length w) i s.at = parse_within fold w (part ts k) i s.at s.first.0 s.first.1 s.first.2 in
+      dead_pieces (suc k) n (omega arith)
+      (λ a b in_text r. never a b in_text (subst (λ x. Reaches (IsParse fold w (part ts x)) a b) (sym e) r))
+      s.at j (inside.inside within) s.others
 
 module _ (fold : Bool) (w : List ℕ) (t : Tree) (m : ℕ) (n : Option ℕ) where
   -- what is left of the iterations after the first k
   abbrev pub Iterations : ℕ → ℕ → ℕ → Type 0
   Iterations k = RowReaches (AreIterations (IsParse fold w t) m n k)
 
-  pub counted_start : (done from base : ℕ) (now : List ℕ) → from ≤ length w → done ≤ base → AddsPlaces (λ j. from ≡ j) [] now →
-      AreCounted (Iterations done from) (Iterations done) (length w) from base done now []
-  counted_start done from base now within bound h =
-      let led : AreLedTo (Iterations done from) (Iterations done) (length w) now = led_start (Iterations done) (length w) from now within h in
-      let ends : AreEnds (λ j. from ≡ j) now = one_place from now h in
-      record {
-        ended = λ j there. absurd (nothing_in j there);
-        sound = led.sound;
-        complete = λ j whole. inr (led.complete j whole);
-        inside = led.inside;
-        forward = λ p there. let e : from ≡ p = ends.each p there in omega arith;
-        counted = λ p there. let e : from ≡ p = ends.each p there in omega arith;
-      }
-
   -- no further iteration, or one and then the rest
   iterations_split : (k : ℕ) (empties : Bool) → (suc k ≤ max m 1 → IsTrue empties) → (i j : ℕ) (ps : Parses) →
       AreIterations (IsParse fold w t) m n k i j ps →
-      ((i ≡ j) × (m ≤ k)) ⊎ (IsBelow k n × IsStepThen (Step fold w empties t) (Iterations (suc k)) i j)
+      ((i ≡ j) × (m ≤ k)) ⊎ (IsBelow k n × IsStepThen (Reaches (IsParse fold w t)) (Iterations (suc k)) empties i j)
   iterations_split k empties free i j no_more h = inl h
   iterations_split k empties free i j (next e c a rest) h = inr (
     (h.0).allowed,
-    record { at = e; first = ((λ same. free ((h.0).advances same)), (c, a, (h.0).holds)); others = (rest, h.1) },
+    record { at = e; first = (c, a, (h.0).holds); allowed = λ same. free ((h.0).advances same); others = (rest, h.1) },
   )
 
   iterations_join : (k : ℕ) (empties : Bool) → (IsTrue empties → suc k ≤ max m 1) → IsBelow k n → (i j : ℕ) →
-      IsStepThen (Step fold w empties t) (Iterations (suc k)) i j → Iterations k i j
+      IsStepThen (Reaches (IsParse fold w t)) (Iterations (suc k)) empties i j → Iterations k i j
   iterations_join k empties free below i j s = (
-    next s.at s.first.1.0 s.first.1.1 s.others.0,
-    (record { allowed = below; advances = λ same. free (s.first.0 same); holds = s.first.1.2 }, s.others.1),
+    next s.at s.first.0 s.first.1 s.others.0,
+    (record { allowed = below; advances = λ same. free (s.allowed same); holds = s.first.2 }, s.others.1),
   )
 
-  below_decided : (k : ℕ) (o : Option ℕ) → IsBelow k o ⊎ (IsBelow k o → ⊥)
-  below_decided k None = inl tt
-  below_decided k (Some x) = less_or_not k x
+  -- one iteration more, before the others
+  pub iterations_column : (k : ℕ) (stops empties : Bool) (one rest new : List Row) → IsBelow k n → (m ≤ k → IsTrue stops) → (IsTrue stops → m ≤ k) →
+      (suc k ≤ max m 1 → IsTrue empties) → (IsTrue empties → suc k ≤ max m 1) →
+      IsColumn (length w) (Reaches (IsParse fold w t)) one → IsColumn (length w) (Iterations (suc k)) rest →
+      IsColumn (length w) (StopsOrGoes stops empties one rest) new → IsColumn (length w) (Iterations k) new
+  iterations_column k stops empties one rest new below stops_to stops_from free_to free_from first others column =
+      renamed_column (length w) (StopsOrGoes stops empties one rest) (Iterations k) new
+      (λ i j within h. elim h [
+        | inl stop ↦ (no_more, (stop.1, stops_from stop.0))
+        | inr go ↦ iterations_join k empties free_from below i j (through_to fold w t (Iterations (suc k)) empties one rest first others i j go)
+      ])
+      (λ i j within h. elim (iterations_split k empties free_to i j h.0 h.1) [
+        | inl stop ↦ inl (stops_to stop.1, stop.0)
+        | inr go ↦ inr (through_from fold w t (Iterations (suc k)) empties one rest first others i j within go.1)
+      ])
+      column
+
+module _ (fold : Bool) (w : List ℕ) (t : Tree) (m : ℕ) where
+  -- the greatest count of iterations has come
+  pub last_iterations : (n : ℕ) (stops : Bool) (rows : List Row) → (m ≤ n → IsTrue stops) → (IsTrue stops → m ≤ n) →
+      IsColumn (length w) (λ i j. IsTrue stops × (i ≡ j)) rows → IsColumn (length w) (Iterations fold w t m (Some n) n) rows
+  last_iterations n stops rows to back column = renamed_column (length w) (λ i j. IsTrue stops × (i ≡ j)) (Iterations fold w t m (Some n) n) rows
+      (λ i j within h. (no_more, (h.1, back h.0)))
+      (λ i j within h. ended i j h.0 h.1)
+      column
     where
-      less_or_not : (k n : ℕ) → (k < n) ⊎ (k < n → ⊥)
-      less_or_not k n = grind arith
+      ended : (i j : ℕ) (ps : Parses) → AreIterations (IsParse fold w t) m (Some n) n i j ps → IsTrue stops × (i ≡ j)
+      ended i j no_more h = (to h.1, h.0)
+      ended i j (next e c a rest) h = let less : n < n = (h.0).allowed in absurd (omega arith)
 
-  pub counted_next : (Whole : ℕ → Type 0) (from base k : ℕ) (empties : Bool) (now new all more_ends : List ℕ) →
-      max m 1 ≤ base → (suc k ≤ max m 1 → IsTrue empties) → (IsTrue empties → suc k ≤ max m 1) →
-      AddsWhere (m ≤ k) (λ j. IsAllowed true from j × Contains now j) all more_ends →
-      EndsWhere (IsBelow k n) (IsStep (Step fold w empties t) now) new →
-      AreCounted Whole (Iterations k) (length w) from base k now all →
-      AreCounted Whole (Iterations (k + 1)) (length w) from base (k + 1) new more_ends
-  counted_next Whole from base k empties now new all more_ends bound free_to free_from stops goes state =
-      let e : k + 1 ≡ suc k = omega arith in
-      subst (λ x. AreCounted Whole (Iterations x) (length w) from base x new more_ends) (sym e) (record {
-        ended = λ j there. elim (stop_decided k) [
-          | inr not_yet ↦ state.ended j (subst (λ xs. Contains xs j) (stops.kept not_yet) there)
-          | inl stop ↦ elim ((stops.added stop).each j there) [
-            | inl old ↦ state.ended j old
-            | inr here ↦ state.sound j j here.1 (no_more, (refl, stop))
-          ]
-        ];
-        sound = λ p j there rest. elim (below_decided k n) [
-          | inr over ↦ absurd (nothing_in p (subst (λ xs. Contains xs p) (goes.empty over) there))
-          | inl below ↦
-              let s : IsStep (Step fold w empties t) now p = (goes.ends below).each p there in
-              state.sound s.from j s.there
-              (iterations_join k empties free_from below s.from j (record { at = p; first = s.leads; others = rest }))
-        ];
-        complete = λ j whole. elim (state.complete j whole) [
-          | inl old ↦ inl (elim (stop_decided k) [
-            | inr not_yet ↦ subst (λ xs. Contains xs j) (sym (stops.kept not_yet)) old
-            | inl stop ↦ (stops.added stop).kept j old
-          ])
-          | inr s ↦ elim (iterations_split k empties free_to s.from j s.leads.0 s.leads.1) [
-            | inl stop ↦ inl ((stops.added stop.1).added j ((λ same. refl), subst (λ x. Contains now x) stop.0 s.there))
-            | inr go ↦ inr (record {
-              from = go.1.at;
-              there = (goes.ends go.0).all go.1.at (record { from = s.from; there = s.there; leads = go.1.first });
-              leads = go.1.others;
-            })
-          ]
-        ];
-        inside = λ p there. elim (below_decided k n) [
-          | inr over ↦ absurd (nothing_in p (subst (λ xs. Contains xs p) (goes.empty over) there))
-          | inl below ↦
-              let s : IsStep (Step fold w empties t) now p = (goes.ends below).each p there in
-              step_inside fold w empties t s.from p (state.inside s.from s.there) s.leads
-        ];
-        forward = λ p there. elim (below_decided k n) [
-          | inr over ↦ absurd (nothing_in p (subst (λ xs. Contains xs p) (goes.empty over) there))
-          | inl below ↦
-              let s : IsStep (Step fold w empties t) now p = (goes.ends below).each p there in
-              let before : from ≤ s.from = state.forward s.from s.there in
-              let here : s.from ≤ p = (step_within s.from p s.leads).forward in omega arith
-        ];
-        counted = λ p there. elim (below_decided k n) [
-          | inr over ↦ absurd (nothing_in p (subst (λ xs. Contains xs p) (goes.empty over) there))
-          | inl below ↦
-              let s : IsStep (Step fold w empties t) now p = (goes.ends below).each p there in
-              let before : from ≤ s.from = state.forward s.from s.there in
-              let so_far : k + from ≤ base + s.from = state.counted s.from s.there in
-              let here : s.from ≤ p = (step_within s.from p s.leads).forward in
-              elim (same_or_less s.from p here) [
-                | inl same ↦ let first : suc k ≤ max m 1 = free_from (s.leads.0 same) in omega arith
-                | inr less ↦ omega arith
-              ]
-        ];
-      })
-    where
-      stop_decided : (k : ℕ) → (m ≤ k) ⊎ (m ≤ k → ⊥)
-      stop_decided k = grind arith
+  -- once no iteration may be empty, it no longer matters how many came before
+  pub loops : (k l : ℕ) → max m 1 ≤ k → max m 1 ≤ l → (i j : ℕ) (ps : Parses) → AreIterations (IsParse fold w t) m None k i j ps →
+      AreIterations (IsParse fold w t) m None l i j ps
+  loops k l first second i j no_more h = (h.0, omega arith)
+  loops k l first second i j (next e c a rest) h = (
+    record { allowed = tt; advances = λ same. let more : suc k ≤ max m 1 = (h.0).advances same in absurd (omega arith); holds = (h.0).holds },
+    loops (suc k) (suc l) (omega arith) (omega arith) e j rest h.1,
+  )
 
-      same_or_less : (i j : ℕ) → i ≤ j → (i ≡ j) ⊎ (i < j)
-      same_or_less i j h = grind arith
+  -- what is left of the iterations once none may be empty
+  abbrev pub Loop : ℕ → ℕ → Type 0
+  Loop = Iterations fold w t m None (max m 1)
 
-      step_within : (i j : ℕ) → Step fold w empties t i j → IsWithin (length w) i j
-      step_within i j s = parse_within fold w t i j s.1.0 s.1.1 s.1.2
+  loop_stop : (i : ℕ) → Loop i i
+  loop_stop i = (no_more, (refl, omega arith))
 
-  pub counted_end : (Whole : ℕ → Type 0) (from base k : ℕ) (now all : List ℕ) → k + from ≡ base + length w + 1 →
-      AreCounted Whole (Iterations k) (length w) from base k now all → AreEnds Whole all
-  counted_end Whole from base k now all e state = record {
-    each = state.ended;
-    all = λ j whole. elim (state.complete j whole) [
-      | inl there ↦ there
-      | inr s ↦
-          let so_far : k + from ≤ base + s.from = state.counted s.from s.there in
-          let inside : s.from ≤ length w = state.inside s.from s.there in
-          absurd (omega arith)
+  loop_go : (i j : ℕ) → IsStepThen (Reaches (IsParse fold w t)) Loop false i j → Loop i j
+  loop_go i j s = (
+    next s.at s.first.0 s.first.1 s.others.0,
+    (
+      record { allowed = tt; advances = λ same. let e : false ≡ true = s.allowed same in cc e; holds = s.first.2 },
+      loops (max m 1) (suc (max m 1)) (omega arith) (omega arith) s.at j s.others.0 s.others.1,
+    ),
+  )
+
+  loop_split : (i j : ℕ) (ps : Parses) → AreIterations (IsParse fold w t) m None (max m 1) i j ps →
+      (i ≡ j) ⊎ IsStepThen (Reaches (IsParse fold w t)) Loop false i j
+  loop_split i j no_more h = inl h.0
+  loop_split i j (next e c a rest) h = inr (record {
+    at = e;
+    first = (c, a, (h.0).holds);
+    allowed = λ same. let more : suc (max m 1) ≤ max m 1 = (h.0).advances same in absurd (omega arith);
+    others = (rest, loops (suc (max m 1)) (max m 1) (omega arith) (omega arith) e j rest h.1);
+  })
+
+  -- the rows from place k on are those of the loop
+  pub record IsLoopedFrom (k : ℕ) (rows : List Row) : Type 0 where
+    pub long : length rows ≡ length w + 1
+    pub each : (i j : ℕ) → k ≤ i → Leads rows i j → Loop i j
+    pub all : (i j : ℕ) → k ≤ i → i ≤ length w → Loop i j → Leads rows i j
+
+  at_or_after : (k i : ℕ) → k ≤ i → (i ≡ k) ⊎ (k + 1 ≤ i)
+  at_or_after k i h = grind arith
+
+  pub looped_next : (k : ℕ) (part rows new : List Row) (row : Row) → k ≤ length w → IsColumn (length w) (Reaches (IsParse fold w t)) part →
+      new ≡ set rows k row → AreEnds (StopsOrGoes true false part rows k) row → IsLoopedFrom (k + 1) rows → IsLoopedFrom k new
+  looped_next k one_rows rows new row inside one e ends later = subst (λ x. IsLoopedFrom k x) (sym e) (record {
+    long = length-set rows k row ∙ later.long;
+    each = λ i j from h. elim (at_or_after k i from) [
+      | inl same ↦ subst (λ x. Loop x j) (sym same) (here j (subst (λ r. Has r j) (get_or-set_same rows k row [] (omega (arith, later.long)))
+          (leads_has (set rows k row) k j [] (subst (λ x. Leads (set rows k row) x j) same h))))
+      | inr after ↦ later.each i j after (old_leads i j after h)
     ];
+    all = λ i j from within h. elim (at_or_after k i from) [
+      | inl same ↦ subst (λ x. Leads (set rows k row) x j) (sym same) (new_leads j (there j (subst (λ x. Loop x j) same h)))
+      | inr after ↦ kept_leads i j after (later.all i j after within h)
+    ];
+  })
+    where
+      past : (at : ℕ) → k ≤ at → IsAllowed false k at → k + 1 ≤ at
+      past at up allowed = elim (at_or_after k at up) [
+        | inl same ↦ let e : false ≡ true = allowed (sym same) in cc e
+        | inr after ↦ after
+      ]
+
+      old_leads : (i j : ℕ) → k + 1 ≤ i → Leads (set rows k row) i j → Leads rows i j
+      old_leads i j after h =
+          let inside : i < length (set rows k row) = leads_inside (set rows k row) i j h in
+          let long : length (set rows k row) ≡ length rows = length-set rows k row in
+          leads_at rows i j [] (omega arith) (subst (λ r. Has r j) (get_or-set_other rows k i row [] (λ same. omega arith)) (leads_has (set rows k row) i j [] h))
+
+      kept_leads : (i j : ℕ) → k + 1 ≤ i → Leads rows i j → Leads (set rows k row) i j
+      kept_leads i j after h =
+          let inside : i < length rows = leads_inside rows i j h in
+          let long : length (set rows k row) ≡ length rows = length-set rows k row in
+          leads_at (set rows k row) i j [] (omega arith) (subst (λ r. Has r j) (sym (get_or-set_other rows k i row [] (λ same. omega arith))) (leads_has rows i j [] h))
+
+      new_leads : (j : ℕ) → Has row j → Leads (set rows k row) k j
+      new_leads j h =
+          let long : length (set rows k row) ≡ length rows = length-set rows k row in
+          let e : length rows ≡ length w + 1 = later.long in
+          leads_at (set rows k row) k j [] (omega arith) (subst (λ r. Has r j) (sym (get_or-set_same rows k row [] (omega arith))) h)
+
+      here : (j : ℕ) → Has row j → Loop k j
+      here j h = elim (ends.each j h) [
+        | inl stop ↦ subst (λ x. Loop k x) stop.1 (loop_stop k)
+        | inr go ↦
+            let r = one.each k go.at go.leads in
+            let e : IsWithin (length w) k go.at = parse_within fold w t k go.at r.0 r.1 r.2 in
+            let up : k ≤ go.at = e.forward in
+            loop_go k j (record { at = go.at; first = r; allowed = go.allowed; others = later.each go.at j (past go.at up go.allowed) go.others })
+      ]
+
+      there : (j : ℕ) → Loop k j → Has row j
+      there j h = ends.all j (elim (loop_split k j h.0 h.1) [
+        | inl stop ↦ inl (refl, stop)
+        | inr go ↦
+            let e : IsWithin (length w) k go.at = parse_within fold w t k go.at go.first.0 go.first.1 go.first.2 in
+            let up : k ≤ go.at = e.forward in
+            inr (record {
+              at = go.at;
+              leads = one.all k go.at inside go.first;
+              allowed = go.allowed;
+              others = later.all go.at j (past go.at up go.allowed) (e.inside inside) go.others;
+            })
+      ])
+
+  pub looped_none : (rows : List Row) → length rows ≡ length w + 1 → (k : ℕ) → k ≡ length w + 1 → IsLoopedFrom k rows
+  looped_none rows long k e = record {
+    long = long;
+    each = λ i j from h. let inside : i < length rows = leads_inside rows i j h in absurd (omega arith);
+    all = λ i j from within h. absurd (omega arith);
+  }
+
+  pub looped_all : (rows : List Row) → IsLoopedFrom 0 rows → IsColumn (length w) Loop rows
+  looped_all rows h = record {
+    short = let e : length rows ≡ length w + 1 = h.long in omega arith;
+    each = λ i j. h.each i j (omega arith);
+    all = λ i j. h.all i j (omega arith);
   }

@@ -1,36 +1,35 @@
 -- The greatest parse from a start, and the best match.
-use Rattle.std.proofs.Common.{◌≡◌, ℕ, ◌+◌, ◌<◌, ◌≤◌, ◌⊎◌, inl, inr, refl, sym, ◌∙◌, subst, arith, Bool, List, length, Option, Some, None, Contains, replicate, IsNone, ◌↔◌, IfSome}
+use Rattle.std.proofs.Common.{◌≡◌, ℕ, ◌+◌, ◌<◌, ◌≤◌, ◌⊎◌, inl, inr, refl, sym, ◌∙◌, subst, arith, Bool, List, length, Option, Some, None, replicate, IsNone, ◌↔◌, IfSome}
 use Rattle.posix_ere.specs.Tree.{Tree}
 use Rattle.submatch.specs.Parses.{Parses, no_more, next, IsParse}
 use Rattle.submatch.specs.Greater.{IsAtLeast, IsGreatestParse}
 use Rattle.submatch.specs.Groups.{MatchSpans, groups_of, nine_spans, with_groups}
 use Rattle.submatch.specs.Best.{IsMatch, HasNoMatch, IsBestMatch, AreBestSpans, IsBestSpan, AreBestGroups, IsGreatestFrom, IsBestOf, TellsBest}
-use Rattle.submatch.specs.Places.{AreEnds}
 use Rattle.submatch.specs.Ends.{Reaches, IsLongest, TellsLongest}
 use Rattle.submatch.proofs.Order.{at_least_next}
 use Rattle.submatch.proofs.Outcomes.{Chosen, chosen, no_choice, part_chosen}
 use Rattle.submatch.proofs.NineSpans.{with_all}
 
-module _ (fold : Bool) (w : List ℕ) (t : Tree) (i : ℕ) (ends : List ℕ) (here : AreEnds (Reaches (IsParse fold w t) i) ends) where
+module _ (fold : Bool) (w : List ℕ) (t : Tree) (i : ℕ) where
   -- with no end there is no match
-  pub no_match : TellsLongest (Contains ends) None → HasNoMatch fold w t i
+  pub no_match : TellsLongest (Reaches (IsParse fold w t) i) None → HasNoMatch fold w t i
   no_match never no_more h = h
-  no_match never (next k d b rest) h = never k (here.all k (d, b, h.0))
+  no_match never (next k d b rest) h = never k ((d, b, h.0))
 
   compare : (k e : ℕ) → k ≤ e → (k < e) ⊎ (k ≡ e)
   compare k e h = grind arith
 
   -- the greatest parse up to the longest end is the greatest of all
-  longest_is_greatest : (e c : ℕ) (a : Parses) → IsLongest (Contains ends) e → IsGreatestParse (IsParse fold w t i e) c a →
+  longest_is_greatest : (e c : ℕ) (a : Parses) → IsLongest (Reaches (IsParse fold w t) i) e → IsGreatestParse (IsParse fold w t i e) c a →
       (qs : Parses) → IsMatch fold w t i qs → IsAtLeast (next e c a no_more) qs
   longest_is_greatest e c a longest g no_more h = absurd h
-  longest_is_greatest e c a longest g (next k d b rest) h = elim (compare k e (longest.most k (here.all k (d, b, h.0)))) [
+  longest_is_greatest e c a longest g (next k d b rest) h = elim (compare k e (longest.most k ((d, b, h.0)))) [
     | inl less ↦ inr (inl less)
     | inr same ↦ subst (λ x. IsAtLeast (next e c a no_more) (next x d b rest)) (sym same)
         (at_least_next e c d a b no_more rest (g.most d b (subst (λ x. IsParse fold w t i x d b) same h.0)) (inl (sym h.1)))
   ]
 
-  greatest_of : (e : ℕ) (spans : MatchSpans) → IsLongest (Contains ends) e → spans.whole ≡ record { from = i; to = e } →
+  greatest_of : (e : ℕ) (spans : MatchSpans) → IsLongest (Reaches (IsParse fold w t) i) e → spans.whole ≡ record { from = i; to = e } →
       ((c : ℕ) (a : Parses) → IsGreatestParse (IsParse fold w t i e) c a → spans.groups ≡ with_groups (replicate 9 None) (groups_of t i e c a)) →
       Chosen (IsParse fold w t i e) → IsGreatestFrom fold w t i spans
   greatest_of e spans longest whole groups (chosen c a g) = record {
@@ -42,9 +41,9 @@ module _ (fold : Bool) (w : List ℕ) (t : Tree) (i : ℕ) (ends : List ℕ) (he
     groups = groups c a g ∙ with_all (groups_of t i e c a);
   }
   greatest_of e spans longest whole groups (no_choice never) =
-      let h = here.each e longest.holds in absurd (never h.0 h.1 h.2)
+      let h = longest.holds in absurd (never h.0 h.1 h.2)
 
-  pub greatest_from : (e : ℕ) (spans : MatchSpans) → i ≤ length w → IsLongest (Contains ends) e → spans.whole ≡ record { from = i; to = e } →
+  pub greatest_from : (e : ℕ) (spans : MatchSpans) → i ≤ length w → IsLongest (Reaches (IsParse fold w t) i) e → spans.whole ≡ record { from = i; to = e } →
       ((c : ℕ) (a : Parses) → IsGreatestParse (IsParse fold w t i e) c a → spans.groups ≡ with_groups (replicate 9 None) (groups_of t i e c a)) →
       IsGreatestFrom fold w t i spans
   greatest_from e spans within longest whole groups = greatest_of e spans longest whole groups (part_chosen fold w t i e within)

@@ -1,153 +1,28 @@
 -- The greatest parse rebuilt: its groups, part by part.
-use Rattle.std.proofs.Common.{◌≡◌, ℕ, zero, suc, ◌+◌, ◌<◌, ◌≤◌, max, ◌⊎◌, inl, inr, refl, sym, ◌∙◌, subst, ap, arith, Bool, List, [], ◌∷◌, ◌++◌, length, Option, Some, None, Result, Ok, Err, OnOk}
-use Rattle.posix_ere.specs.Tree.{Tree, Trees, none, more}
+use Rattle.std.proofs.Common.{◌≡◌, ℕ, zero, suc, ◌+◌, ◌<◌, ◌≤◌, ◌⊎◌, inl, inr, refl, sym, ◌∙◌, subst, ap, arith, Bool, List, [], ◌∷◌, ◌++◌, length, Option, Some, None}
+use Rattle.posix_ere.specs.Tree.{Tree, Trees, branch, group, none, more}
 use Rattle.posix_ere.specs.Parts.{count_of, part, parts_of}
-use Rattle.submatch.specs.declared.spans.Span.{Span}
-use Rattle.submatch.specs.Parses.{Parses, no_more, next, IsParse, IsAlone, ArePieces, IsBranch, IsIteration, AreIterations}
-use Rattle.submatch.specs.Greater.{IsGreater, AreGreatest, IsGreatestParse, IsPartAtLeast}
-use Rattle.submatch.specs.Groups.{Taken, groups_of, groups_of_first, groups_of_last, groups_of_pieces, groups_of_branch, with_group, with_groups}
-use Rattle.submatch.specs.Ends.{Reaches, IsHeadEnd, IsLongest, TellsLongest, LeavesGroupsOf, parts_from}
-use Rattle.submatch.proofs.Ends.{IsWithin, parse_within}
-use Rattle.submatch.proofs.Greedy.{greedy_of_greatest, iterations_of_greatest, alone_of_greatest, settled}
-use Rattle.submatch.proofs.Longest.{head_is_longest, head_is_there}
-use Rattle.submatch.proofs.EndsOfRows.{parts_split, parts_end}
-use Rattle.submatch.proofs.EndsOfNodes.{branch_to, branch_from, branch_counted, is_alt, is_branch, is_group, is_rep}
 use Rattle.posix_ere.specs.Nodes.{node_of}
 use Rattle.posix_ere.specs.declared.node.Node.TheVariants.{Alt, Branch, Group, Rep}
+use Rattle.submatch.specs.declared.spans.Span.{Span}
+use Rattle.submatch.specs.Parses.{Parses, no_more, next, IsParse, IsAlone, ArePieces, IsBranch, AreIterations}
+use Rattle.submatch.specs.Greater.{IsGreater, AreGreatest, IsGreatestParse, IsPartAtLeast}
+use Rattle.submatch.specs.Groups.{Taken, groups_of, groups_of_first, groups_of_pieces, groups_of_branch, with_group, with_groups}
+use Rattle.submatch.specs.Ends.{Reaches, RowReaches, IsHeadEnd, IsLongest, TellsLongest, LeavesGroupsOf, AddsGroups, IsFirst, parts_from}
+use Rattle.submatch.proofs.Ends.{parse_within}
+use Rattle.submatch.proofs.Greedy.{greedy_of_greatest, alone_of_greatest, settled}
+use Rattle.submatch.proofs.Turning.{head_is_longest}
+use Rattle.submatch.proofs.EndsOfRows.{parts_split, parts_end}
+use Rattle.submatch.proofs.EndsOfNodes.{branch_to, branch_from, branch_counted, alone_to, is_alt, is_branch, is_group, is_rep}
+
+pub not_zero : (n : ℕ) → (n ≡ 0 → ⊥) → 0 < n
+not_zero zero other = absurd (other refl)
+not_zero (suc n) other = omega arith
 
 -- groups taken in turn, in two parts
 pub with_groups-append : (spans : List (Option Span)) (xs ys : List Taken) → with_groups spans (xs ++ ys) ≡ with_groups (with_groups spans xs) ys
 with_groups-append spans [] ys = refl
 with_groups-append spans (x ∷ xs) ys = with_groups-append (with_group spans x) xs ys
-
-module _ (fold : Bool) (w : List ℕ) (t : Tree) (m : ℕ) (n : Option ℕ) (from to : ℕ) where
-  -- the groups that all iterations leave are those of the last one so far and of what is left
-  abbrev LeavesSoFar : ℕ → Parses → Parses → Option Span → Type 0
-  LeavesSoFar place ps qs None = groups_of_last (groups_of t) from ps ≡ groups_of_last (groups_of t) place qs
-  LeavesSoFar place ps qs (Some s) = (s.to ≡ place) × (c : ℕ) × (a : Parses) × IsGreatestParse (IsParse fold w t s.from s.to) c a ×
-      (groups_of_last (groups_of t) from ps ≡ groups_of_last (groups_of t) s.from (next s.to c a qs))
-
-  -- what is left of the greatest iterations ps after the first k
-  pub record IsLeft (k place : ℕ) (last : Option Span) (ps : Parses) : Type 0 where
-    pub rest : Parses
-    pub greatest : AreGreatest (AreIterations (IsParse fold w t) m n k place to) rest
-    pub leaves : LeavesSoFar place ps rest last
-
-  -- the last iteration so far begins in the text
-  abbrev BeginsInside : Option Span → Type 0
-  BeginsInside None = Unit {0}
-  BeginsInside (Some s) = s.from ≤ length w
-
-  -- the loop over iterations has come to this place after the first k
-  pub record HasCome (k place : ℕ) (last : Option Span) : Type 0 where
-    pub inside : place ≤ length w
-    pub forward : from ≤ place
-    pub counted : k + from ≤ max m 1 + place
-    pub begins : BeginsInside last
-    pub left : (ps : Parses) → AreGreatest (AreIterations (IsParse fold w t) m n 0 from to) ps → IsLeft k place last ps
-
-  pub has_begun : from ≤ length w → HasCome 0 from None
-  has_begun within = record {
-    inside = within;
-    forward = omega arith;
-    counted = omega arith;
-    begins = tt;
-    left = λ ps g. record { rest = ps; greatest = g; leaves = refl };
-  }
-
-  -- the head of what is left becomes the last iteration
-  moved : (k place e c : ℕ) (a rest ps : Parses) (last : Option Span) → LeavesSoFar place ps (next e c a rest) last →
-      IsGreatestParse (IsParse fold w t place e) c a → LeavesSoFar e ps rest (Some (record { from = place; to = e }))
-  moved k place e c a rest ps None leaves g = (refl, c, a, g, leaves)
-  moved k place e c a rest ps (Some s) leaves g = (
-    refl,
-    c,
-    a,
-    g,
-    leaves.4 ∙ ap (λ x. groups_of_last (groups_of t) x (next e c a rest)) leaves.0,
-  )
-
-  first_parse : (k place e c : ℕ) (a : Parses) → IsGreatestParse (IsIteration (IsParse fold w t) m n k place e) c a →
-      IsGreatestParse (IsParse fold w t place e) c a
-  first_parse k place e c a g = record {
-    holds = g.holds.holds;
-    most = λ d b h. g.most d b (record { allowed = g.holds.allowed; advances = g.holds.advances; holds = h });
-  }
-
-  step_left : (k place e : ℕ) (last : Option Span) (ps qs : Parses) →
-      IsLongest (IsHeadEnd (IsIteration (IsParse fold w t) m n k) (AreIterations (IsParse fold w t) m n (suc k)) place to) e →
-      AreGreatest (AreIterations (IsParse fold w t) m n k place to) qs → LeavesSoFar place ps qs last →
-      IsLeft (suc k) e (Some (record { from = place; to = e })) ps
-  step_left k place e last ps no_more longest g leaves =
-      absurd (not_stopped g (longest.holds))
-    where
-      not_stopped : AreGreatest (AreIterations (IsParse fold w t) m n k place to) no_more →
-          IsHeadEnd (IsIteration (IsParse fold w t) m n k) (AreIterations (IsParse fold w t) m n (suc k)) place to e → ⊥
-      not_stopped g h = elim (g.most (next e h.0.0 h.0.1 h.1.0) (h.0.2, h.1.1)) [
-        | inl same ↦ cc same
-        | inr less ↦ less
-      ]
-  step_left k place e last ps (next f c a rest) longest g leaves =
-      let greedy = iterations_of_greatest (IsParse fold w t) m n k place to f c a rest g in
-      let same : e ≡ f = head_is_longest (IsIteration (IsParse fold w t) m n k) (AreIterations (IsParse fold w t) m n (suc k)) place to f e c a rest greedy longest in
-      subst (λ x. IsLeft (suc k) x (Some (record { from = place; to = x })) ps) (sym same) (record {
-        rest = rest;
-        greatest = greedy.others;
-        leaves = moved k place f c a rest ps last leaves (first_parse k place f c a greedy.first);
-      })
-
-  pub has_gone_on : (k place e : ℕ) (last : Option Span) →
-      IsLongest (IsHeadEnd (IsIteration (IsParse fold w t) m n k) (AreIterations (IsParse fold w t) m n (k + 1)) place to) e →
-      HasCome k place last → HasCome (k + 1) e (Some (record { from = place; to = e }))
-  has_gone_on k place e last longest so_far =
-      let next_k : k + 1 ≡ suc k = omega arith in
-      let longest' : IsLongest (IsHeadEnd (IsIteration (IsParse fold w t) m n k) (AreIterations (IsParse fold w t) m n (suc k)) place to) e =
-      subst (λ x. IsLongest (IsHeadEnd (IsIteration (IsParse fold w t) m n k) (AreIterations (IsParse fold w t) m n x) place to) e) next_k longest in
-      let it = longest.holds.0.2 in
-      let here : IsWithin (length w) place e = parse_within fold w t place e longest.holds.0.0 longest.holds.0.1 it.holds in
-      record {
-        inside = here.inside so_far.inside;
-        forward = let a : from ≤ place = so_far.forward in let b : place ≤ e = here.forward in omega arith;
-        counted = let a : from ≤ place = so_far.forward in let b : place ≤ e = here.forward in
-            let counted_here : k + from ≤ max m 1 + place = so_far.counted in
-            elim (same_or_less place e b) [
-              | inl same ↦ let first : suc k ≤ max m 1 = it.advances same in omega arith
-              | inr less ↦ omega arith
-            ];
-        begins = so_far.inside;
-        left = λ ps g. let l : IsLeft k place last ps = so_far.left ps g in
-            subst (λ x. IsLeft x e (Some (record { from = place; to = e })) ps) (sym next_k)
-            (step_left k place e last ps l.rest longest' l.greatest l.leaves);
-      }
-    where
-      same_or_less : (i j : ℕ) → i ≤ j → (i ≡ j) ⊎ (i < j)
-      same_or_less i j h = grind arith
-
-  stopped : (place : ℕ) (last : Option Span) (ps : Parses) → LeavesSoFar place ps no_more last → LeavesGroupsOf fold w t from ps last
-  stopped place None ps leaves = leaves
-  stopped place (Some s) ps leaves = (leaves.1, leaves.2, leaves.3, leaves.4)
-
-  pub has_stopped : (k place : ℕ) (last : Option Span) →
-      TellsLongest (IsHeadEnd (IsIteration (IsParse fold w t) m n k) (AreIterations (IsParse fold w t) m n (k + 1)) place to) None →
-      HasCome k place last → (ps : Parses) → AreGreatest (AreIterations (IsParse fold w t) m n 0 from to) ps → LeavesGroupsOf fold w t from ps last
-  has_stopped k place last never so_far ps g =
-      let l : IsLeft k place last ps = so_far.left ps g in
-      let next_k : k + 1 ≡ suc k = omega arith in
-      let never' : TellsLongest (IsHeadEnd (IsIteration (IsParse fold w t) m n k) (AreIterations (IsParse fold w t) m n (suc k)) place to) None =
-      subst (λ x. TellsLongest (IsHeadEnd (IsIteration (IsParse fold w t) m n k) (AreIterations (IsParse fold w t) m n x) place to) None) next_k never in
-      stopped place last ps (no_rest l.rest l.greatest never' l.leaves)
-    where
-      no_rest : (qs : Parses) → AreGreatest (AreIterations (IsParse fold w t) m n k place to) qs →
-          TellsLongest (IsHeadEnd (IsIteration (IsParse fold w t) m n k) (AreIterations (IsParse fold w t) m n (suc k)) place to) None →
-          LeavesSoFar place ps qs last → LeavesSoFar place ps no_more last
-      no_rest no_more g never leaves = leaves
-      no_rest (next e c a rest) g never leaves = absurd (head_is_there (IsIteration (IsParse fold w t) m n k)
-          (AreIterations (IsParse fold w t) m n (suc k)) place to e c a rest (iterations_of_greatest (IsParse fold w t) m n k place to e c a rest g) never)
-
-  -- no more iterations than this can come
-  pub not_past : (k place : ℕ) (last : Option Span) → k + from ≡ max m 1 + length w + 1 → HasCome k place last → ⊥
-  not_past k place last e so_far =
-      let a : place ≤ length w = so_far.inside in let b : k + from ≤ max m 1 + place = so_far.counted in omega arith
 
 module _ (fold : Bool) (w : List ℕ) (ts : Trees) (from to : ℕ) where
   -- the groups of the greatest pieces ps are those written so far and those of what is left of them
@@ -159,10 +34,11 @@ module _ (fold : Bool) (w : List ℕ) (ts : Trees) (from to : ℕ) where
   -- the loop over pieces has come to this place after the first k
   pub record HaveCome (k place : ℕ) (old now : List (Option Span)) : Type 0 where
     pub inside : place ≤ length w
+    pub reached : RowReaches (ArePieces fold w (parts_from k ts)) place to
     pub left : (ps : Parses) → AreGreatest (ArePieces fold w ts from to) ps → AreLeft k place old now ps
 
-  pub have_begun : (old : List (Option Span)) → from ≤ length w → HaveCome 0 from old old
-  have_begun old within = record { inside = within; left = λ ps g. record { rest = ps; greatest = g; written = refl } }
+  pub have_begun : (old : List (Option Span)) → from ≤ length w → RowReaches (ArePieces fold w ts) from to → HaveCome 0 from old old
+  have_begun old within reached = record { inside = within; reached = reached; left = λ ps g. record { rest = ps; greatest = g; written = refl } }
 
   -- the groups of one piece more
   Rebuilds : Tree → ℕ → ℕ → List (Option Span) → List (Option Span) → Type 0
@@ -199,6 +75,7 @@ module _ (fold : Bool) (w : List ℕ) (ts : Trees) (from to : ℕ) where
       subst (λ x. IsLongest (IsHeadEnd (IsParse fold w (part ts k)) (ArePieces fold w (parts_from x ts)) place to) e) next_k longest in
       record {
         inside = (parse_within fold w (part ts k) place e longest.holds.0.0 longest.holds.0.1 longest.holds.0.2).inside so_far.inside;
+        reached = longest.holds.1;
         left = λ ps g.
             let l : AreLeft k place old now ps = so_far.left ps g in
             let split : parts_from k ts ≡ more (part ts k) (parts_from (suc k) ts) = parts_split k ts less in
@@ -219,21 +96,54 @@ module _ (fold : Bool) (w : List ℕ) (ts : Trees) (from to : ℕ) where
       let end : parts_from k ts ≡ none = subst (λ x. parts_from x ts ≡ none) (sym e) (parts_end ts) in
       sym (l.written ∙ ap (λ x. with_groups now (groups_of_pieces x place l.rest)) end)
 
-  -- the pieces cannot stop where greatest ones are left
+  row_head : (t : Tree) (others : Trees) (place : ℕ) (ps : Parses) → ArePieces fold w (more t others) place to ps →
+      (e : ℕ) × IsHeadEnd (IsParse fold w t) (ArePieces fold w others) place to e
+  row_head t others place no_more h = absurd h
+  row_head t others place (next e c a rest) h = (e, ((c, a, h.0), (rest, h.1)))
+
+  -- a further piece is there
+  head_there : (k place : ℕ) (old now : List (Option Span)) → k < count_of ts → HaveCome k place old now →
+      (e : ℕ) × IsHeadEnd (IsParse fold w (part ts k)) (ArePieces fold w (parts_from (suc k) ts)) place to e
+  head_there k place old now less so_far = row_head (part ts k) (parts_from (suc k) ts) place so_far.reached.0
+      (subst (λ x. ArePieces fold w x place to so_far.reached.0) (parts_split k ts less) so_far.reached.1)
+
   pub have_not_stopped : (k place : ℕ) (old now : List (Option Span)) → k < count_of ts →
       TellsLongest (IsHeadEnd (IsParse fold w (part ts k)) (ArePieces fold w (parts_from (k + 1) ts)) place to) None →
-      HaveCome k place old now → (ps : Parses) → AreGreatest (ArePieces fold w ts from to) ps → ⊥
-  have_not_stopped k place old now less never so_far ps g =
+      HaveCome k place old now → ⊥
+  have_not_stopped k place old now less never so_far =
       let next_k : k + 1 ≡ suc k = omega arith in
-      let l : AreLeft k place old now ps = so_far.left ps g in
-      no_row l.rest (subst (λ x. AreGreatest (ArePieces fold w x place to) l.rest) (parts_split k ts less) l.greatest)
-      (subst (λ x. TellsLongest (IsHeadEnd (IsParse fold w (part ts k)) (ArePieces fold w (parts_from x ts)) place to) None) next_k never)
-    where
-      no_row : (qs : Parses) → AreGreatest (ArePieces fold w (more (part ts k) (parts_from (suc k) ts)) place to) qs →
-          TellsLongest (IsHeadEnd (IsParse fold w (part ts k)) (ArePieces fold w (parts_from (suc k) ts)) place to) None → ⊥
-      no_row no_more g never = g.holds
-      no_row (next e c a rest) g never = head_is_there (IsParse fold w (part ts k)) (ArePieces fold w (parts_from (suc k) ts)) place to e c a rest
-          (greedy_of_greatest (IsParse fold w (part ts k)) (ArePieces fold w (parts_from (suc k) ts)) place to e c a rest g) never
+      let h = head_there k place old now less so_far in
+      never h.0 (subst (λ x. IsHeadEnd (IsParse fold w (part ts k)) (ArePieces fold w (parts_from x ts)) place to h.0) (sym next_k) h.1)
+
+  -- what the last piece takes is what is left
+  pub last_reached : (k place : ℕ) → suc k ≡ count_of ts → RowReaches (ArePieces fold w (parts_from k ts)) place to → Reaches (IsParse fold w (part ts k)) place to
+  last_reached k place last left =
+      let end : parts_from (suc k) ts ≡ none = subst (λ x. parts_from x ts ≡ none) (sym last) (parts_end ts) in
+      let h = row_head (part ts k) (parts_from (suc k) ts) place left.0
+      (subst (λ x. ArePieces fold w x place to left.0) (parts_split k ts (omega arith)) left.1) in
+      let head : IsHeadEnd (IsParse fold w (part ts k)) (ArePieces fold w none) place to h.0 =
+      subst (λ x. IsHeadEnd (IsParse fold w (part ts k)) (ArePieces fold w x) place to h.0) end h.1 in
+      subst (λ x. Reaches (IsParse fold w (part ts k)) place x) head.1.1.0 head.0
+
+  -- the last piece takes what is left
+  pub last_takes : (k place : ℕ) → suc k ≡ count_of ts → RowReaches (ArePieces fold w (parts_from k ts)) place to →
+      IsLongest (IsHeadEnd (IsParse fold w (part ts k)) (ArePieces fold w (parts_from (k + 1) ts)) place to) to
+  last_takes k place last left =
+      let next_k : k + 1 ≡ suc k = omega arith in
+      let end : parts_from (k + 1) ts ≡ none = subst (λ x. parts_from x ts ≡ none) (sym (next_k ∙ last)) (parts_end ts) in
+      subst (λ x. IsLongest (IsHeadEnd (IsParse fold w (part ts k)) (ArePieces fold w x) place to) to) (sym end) (record {
+        holds = (last_reached k place last left, (no_more, (refl, refl)));
+        most = λ f g. let same : f ≡ to = g.1.1.0 in omega arith;
+      })
+
+  -- with the last piece all groups are written
+  pub have_taken_all : (k place : ℕ) (old now new : List (Option Span)) → suc k ≡ count_of ts →
+      ((c : ℕ) (a : Parses) → IsGreatestParse (IsParse fold w (part ts k) place to) c a → new ≡ with_groups now (groups_of (part ts k) place to c a)) →
+      HaveCome k place old now → (ps : Parses) → AreGreatest (ArePieces fold w ts from to) ps → new ≡ with_groups old (groups_of_pieces ts from ps)
+  have_taken_all k place old now new last rebuilt so_far =
+      let next_k : k + 1 ≡ suc k = omega arith in
+      have_ended (k + 1) to old new (next_k ∙ last)
+      (have_gone_on k place to old now new (omega arith) (last_takes k place last so_far.reached) rebuilt so_far)
 
   -- the groups of a branch are those of its tree
   groups_of_branch_is : (us : Trees) (k i : ℕ) (ps : Parses) → k < count_of us → groups_of_branch us k i ps ≡ groups_of_first (groups_of (part us k)) i ps
@@ -275,11 +185,19 @@ module _ (fold : Bool) (w : List ℕ) (ts : Trees) (from to : ℕ) where
       same_number c a b (inl less) = absurd (omega arith)
       same_number c a b (inr h) = h.1
 
-  -- no branch reaches the end
-  pub no_branch : (k : ℕ) (c : ℕ) (a : Parses) → k ≡ count_of ts → ((d : ℕ) (b : Parses) → d < k → IsBranch fold w ts d from to b → ⊥) →
-      IsGreatestParse (λ d b. IsBranch fold w ts d from to b) c a → ⊥
-  no_branch k c a e earlier g =
-      let less : c < count_of ts = branch_counted fold w ts c from to a g.holds in earlier c a (omega arith) g.holds
+  -- where no earlier branch reaches the end, the last one does
+  pub last_reaches : (last : ℕ) → last + 1 ≡ count_of ts → ((d : ℕ) (b : Parses) → d < last → IsBranch fold w ts d from to b → ⊥) →
+      (c : ℕ) (a : Parses) → IsBranch fold w ts c from to a → Reaches (IsParse fold w (part ts last)) from to
+  last_reaches last e earlier c a h = elim (before_or_last c (branch_counted fold w ts c from to a h)) [
+    | inl before ↦ absurd (earlier c a before h)
+    | inr same ↦ alone_to fold w (part ts last) from to (a, branch_to fold w ts last from to a (subst (λ x. IsBranch fold w ts x from to a) same h))
+  ]
+    where
+      before_or_last : (c : ℕ) → c < count_of ts → (c < last) ⊎ (c ≡ last)
+      before_or_last c less = split c last (omega arith)
+        where
+          split : (c last : ℕ) → c < last + 1 → (c < last) ⊎ (c ≡ last)
+          split c last h = grind arith
 
 -- a branch that does not reach the end, after those before it
 pub not_this_branch : (fold : Bool) (w : List ℕ) (ts : Trees) (from to k : ℕ) → (Reaches (IsParse fold w (part ts k)) from to → ⊥) →
@@ -287,20 +205,11 @@ pub not_this_branch : (fold : Bool) (w : List ℕ) (ts : Trees) (from to k : ℕ
     (d : ℕ) (b : Parses) → d < k + 1 → IsBranch fold w ts d from to b → ⊥
 not_this_branch fold w ts from to k here earlier d b less h = elim (before_or_at d k less) [
   | inl before ↦ earlier d b before h
-  | inr same ↦ here (reached b (branch_to fold w ts k from to b (subst (λ x. IsBranch fold w ts x from to b) same h)))
+  | inr same ↦ here (alone_to fold w (part ts k) from to (b, branch_to fold w ts k from to b (subst (λ x. IsBranch fold w ts x from to b) same h)))
 ]
   where
     before_or_at : (d k : ℕ) → d < k + 1 → (d < k) ⊎ (d ≡ k)
     before_or_at d k h = grind arith
-
-    reached : (ps : Parses) → IsAlone (IsParse fold w (part ts k)) from to ps → Reaches (IsParse fold w (part ts k)) from to
-    reached no_more h = absurd h
-    reached (next e c a rest) h = (c, a, subst (λ x. IsParse fold w (part ts k) from x c a) h.1.0 h.0)
-
--- what holds on success implies what holds of it by another name
-pub map_on_ok : {T E : Type 0} (P Q : Type 0) (r : Result T E) → (P → Q) → OnOk r P → OnOk r Q
-map_on_ok P Q (Ok x) there h = there h
-map_on_ok P Q (Err e) there h = h
 
 module _ (fold : Bool) (w : List ℕ) (from to : ℕ) (old new : List (Option Span)) where
   -- the groups of the greatest parse of a part over this stretch were written
@@ -337,3 +246,32 @@ module _ (fold : Bool) (w : List ℕ) (from to : ℕ) (old new : List (Option Sp
   rep_empty t m n e leaves same = subst (λ x. IsRebuilt old x) (sym (is_rep t m n e)) (λ c a greatest.
       let l = leaves a ((settled (AreIterations (IsParse fold w (part (parts_of t) 0)) m n 0 from to) c a).0 greatest).1 in
       same ∙ ap (λ x. with_groups old x) (sym l))
+
+-- the groups of the earliest alternative
+pub earliest_rebuilt : (fold : Bool) (w : List ℕ) (t u : Tree) (s : Span) (old new : List (Option Span)) → node_of t ≡ Alt → IsFirst fold w (parts_of t) s u →
+    Reaches (IsParse fold w u) s.from s.to → AddsGroups fold w u s old new → AddsGroups fold w t s old new
+earliest_rebuilt fold w t u s old new e first reached rebuilt = alt_rebuilt fold w s.from s.to old new t e
+    (λ c a. branch_rebuilt fold w (parts_of t) s.from s.to first.number old new c a first.among first.earlier
+    (subst (λ x. Reaches (IsParse fold w x) s.from s.to) first.is reached)
+    (subst (λ x. AddsGroups fold w x s old new) first.is rebuilt))
+
+-- what a part reaches, the parts inside it do
+module _ (fold : Bool) (w : List ℕ) (t : Tree) (i j : ℕ) where
+  pub group_reaches : (g : ℕ) → node_of t ≡ Group g → Reaches (IsParse fold w t) i j → Reaches (IsParse fold w (part (parts_of t) 0)) i j
+  group_reaches g e h =
+      let r : Reaches (IsParse fold w (group g (part (parts_of t) 0))) i j = subst (λ x. Reaches (IsParse fold w x) i j) (is_group t g e) h in
+      alone_to fold w (part (parts_of t) 0) i j (r.1, r.2.1)
+
+  pub alt_reaches : node_of t ≡ Alt → Reaches (IsParse fold w t) i j → (c : ℕ) × (a : Parses) × IsBranch fold w (parts_of t) c i j a
+  alt_reaches e h = subst (λ x. Reaches (IsParse fold w x) i j) (is_alt t e) h
+
+  pub branch_reaches : node_of t ≡ Branch → Reaches (IsParse fold w t) i j → RowReaches (ArePieces fold w (parts_of t)) i j
+  branch_reaches e h =
+      let r : Reaches (IsParse fold w (branch (parts_of t))) i j = subst (λ x. Reaches (IsParse fold w x) i j) (is_branch t e) h in (r.1, r.2.1)
+
+  pub reaches_inside : i ≤ length w → Reaches (IsParse fold w t) i j → j ≤ length w
+  reaches_inside within h = (parse_within fold w t i j h.0 h.1 h.2).inside within
+
+  pub some_branch : node_of t ≡ Alt → Reaches (IsParse fold w t) i j → 1 ≤ count_of (parts_of t)
+  some_branch e h = let b = alt_reaches e h in
+      let less : b.0 < count_of (parts_of t) = branch_counted fold w (parts_of t) b.0 i j b.1 b.2 in omega arith

@@ -4,5 +4,6 @@ pub mod Greater
 pub mod Groups
 pub mod Best
 pub mod Laws
-pub mod Places
+pub mod Rows
 pub mod Ends
+pub mod Table

@@ -1,132 +1,165 @@
-use Rattle.std.proofs.Common.{◌≡◌, ℕ, ◌+◌, ◌<◌, Some, None, subst, sym, ◌∙◌, arith, true, refl, Option}
-use Rattle.posix_ere.specs.Tree.{Tree}
-use Rattle.posix_ere.specs.Parts.{parts_of, part}
-use Rattle.posix_ere.specs.Nodes.{tree_at}
-use Rattle.submatch.specs.declared.spans.Span.{Span}
-use Rattle.submatch.specs.Parses.{Parses, IsParse, ArePieces, IsBranch, AreIterations}
-use Rattle.submatch.specs.Greater.{IsGreatestParse, AreGreatest}
-use Rattle.submatch.specs.Groups.{groups_of_pieces, groups_of_branch, with_groups}
-use Rattle.submatch.specs.Ends.{Reaches, IsHeadEnd, TellsLongest, LeavesGroupsOf, parts_from}
-use Rattle.submatch.proofs.Rebuilding.{map_on_ok, IsRebuilt, alt_rebuilt, branch_is_rebuilt, group_rebuilt, rep_rebuilt, rep_empty, branch_rebuilt, no_branch, not_this_branch, have_gone_on, have_ended, have_not_stopped}
+use Rattle.std.proofs.Common.{◌≡◌, ◌+◌, ◌-◌, ◌*◌, ◌<◌, ◌≤◌, ◌∙◌, length, subst, sym, arith, refl}
+use Rattle.posix_ere.specs.Parts.{parts_of, part, count_of, weight}
+use Rattle.submatch.specs.Parses.{IsParse, ArePieces}
+use Rattle.submatch.specs.Ends.{Reaches, RowReaches, AddsGroups, parts_from}
+use Rattle.submatch.specs.Table.{tree_of, square}
+use Rattle.submatch.proofs.Compiling.{weights_to}
+use Rattle.submatch.proofs.Rebuilding.{HaveCome, have_begun, have_gone_on, have_ended, have_not_stopped, have_taken_all, not_zero, earliest_rebuilt, branch_is_rebuilt, group_rebuilt, rep_rebuilt, rep_empty, branch_reaches, reaches_inside}
+use Rattle.submatch.proofs.Spending.{weighs, spent_alt, spent_piece, spent_last, spent_empty, spent_no_turn, spent_turns, places_within}
 use Rattle.submatch.proofs.search.Search.+rebuild.Goals as goal
 
-pub rebuild-returns-in-Alt : goal.rebuild-returns-in-Alt
-rebuild-returns-in-Alt g t c =
-    let tree = tree_at c.args.self.now.ere.now c.args.at in
-    map_on_ok ((d : ℕ) (a : Parses) → IsGreatestParse (λ e b. IsBranch c.args.self.now.fold c.args.self.now.text.now (parts_of tree) e c.args.from c.args.to b) d a →
-    c.rebuild_branch.new.groups ≡ with_groups c.args.groups.now (groups_of_branch (parts_of tree) d c.args.from a))
-    (IsRebuilt c.args.self.now.fold c.args.self.now.text.now c.args.from c.args.to c.args.groups.now c.rebuild_branch.new.groups c.args.groups.now tree)
-    c.rebuild_branch.result
-    (alt_rebuilt c.args.self.now.fold c.args.self.now.text.now c.args.from c.args.to c.args.groups.now c.rebuild_branch.new.groups tree (sym c.in-Alt.ensures))
-    c.rebuild_branch.ensures
-
-pub rebuild-returns-in-Branch : goal.rebuild-returns-in-Branch
-rebuild-returns-in-Branch g t c =
-    let tree = tree_at c.args.self.now.ere.now c.args.at in
-    map_on_ok ((ps : Parses) → AreGreatest (ArePieces c.args.self.now.fold c.args.self.now.text.now (parts_of tree) c.args.from c.args.to) ps →
-    c.rebuild_pieces.new.groups ≡ with_groups c.args.groups.now (groups_of_pieces (parts_of tree) c.args.from ps))
-    (IsRebuilt c.args.self.now.fold c.args.self.now.text.now c.args.from c.args.to c.args.groups.now c.rebuild_pieces.new.groups c.args.groups.now tree)
-    c.rebuild_pieces.result
-    (branch_is_rebuilt c.args.self.now.fold c.args.self.now.text.now c.args.from c.args.to c.args.groups.now c.rebuild_pieces.new.groups tree (sym c.in-Branch.ensures))
-    c.rebuild_pieces.ensures
-
-pub rebuild-returns-in-Group : goal.rebuild-returns-in-Group
-rebuild-returns-in-Group g t c =
-    let tree = tree_at c.args.self.now.ere.now c.args.at in
+pub rebuild_group-returns-clause-groups : goal.rebuild_group-returns-clause-groups
+rebuild_group-returns-clause-groups g t c =
     let F = c.args.self.now.fold in
     let W = c.args.self.now.text.now in
-    let new = c.rebuild.new.groups in
-    map_on_ok (IsRebuilt F W c.args.from c.args.to c.args.groups.now new c.take.new.self (tree_at c.args.self.now.ere.now c.child.result))
-    (IsRebuilt F W c.args.from c.args.to c.args.groups.now new c.args.groups.now tree)
-    c.rebuild.result
-    (λ h. group_rebuilt F W c.args.from c.args.to c.args.groups.now new tree c.in-Group.number (sym c.in-Group.ensures)
-    (subst (λ x. IsRebuilt F W c.args.from c.args.to c.args.groups.now new x (part (parts_of tree) 0)) c.take.ensures
-    (subst (λ x. IsRebuilt F W c.args.from c.args.to c.args.groups.now new c.take.new.self x) c.child.ensures.part h)))
-    c.rebuild.ensures
+    let tree = tree_of c.args.self.now.ere.now c.args.table.now c.args.number in
+    group_rebuilt F W c.args.over.from c.args.over.to c.args.groups.now c.rebuild.new.groups tree c.args.group c.requires.kind
+    (subst (λ x. AddsGroups F W (part (parts_of tree) 0) c.args.over x c.rebuild.new.groups) c.take.ensures
+    (subst (λ x. AddsGroups F W x c.args.over c.take.new.self c.rebuild.new.groups) c.inside-part.ensures.tree c.rebuild.ensures.groups))
 
-pub rebuild-returns-in-None : goal.rebuild-returns-in-None
-rebuild-returns-in-None g t c =
-    let tree = tree_at c.args.self.now.ere.now c.args.at in
+pub rebuild_alt-earliest-branch-requires-clause-end : goal.rebuild_alt-earliest-branch-requires-clause-end
+rebuild_alt-earliest-branch-requires-clause-end g t c = reaches_inside c.args.self.now.fold c.args.self.now.text.now
+    (tree_of c.args.self.now.ere.now c.args.table.now c.args.number) c.args.over.from c.args.over.to c.requires.within c.requires.reached
+
+pub rebuild_alt-returns-clause-groups : goal.rebuild_alt-returns-clause-groups
+rebuild_alt-returns-clause-groups g t c = earliest_rebuilt c.args.self.now.fold c.args.self.now.text.now
+    (tree_of c.args.self.now.ere.now c.args.table.now c.args.number) (tree_of c.args.self.now.ere.now c.args.table.now c.earliest-branch.result)
+    c.args.over c.args.groups.now c.rebuild.new.groups c.requires.kind c.earliest-branch.ensures.first c.earliest-branch.ensures.reached c.rebuild.ensures.groups
+
+pub rebuild_alt-returns-clause-most : goal.rebuild_alt-returns-clause-most
+rebuild_alt-returns-clause-most g t c =
+    let tree = tree_of c.args.self.now.ere.now c.args.table.now c.args.number in
+    let q = square c.args.self.now.text.now in
+    spent_alt tree c.earliest-branch.ensures.first.number (count_of (parts_of tree) - 1) q c.args.steps.now c.earliest-branch.new.steps c.rebuild.new.steps
+    c.requires.kind c.earliest-branch.ensures.first.among
+    (let less : c.earliest-branch.ensures.first.number < count_of (parts_of tree) = c.earliest-branch.ensures.first.among in omega arith)
+    (let a : length c.args.self.now.text.now + 1 ≤ q = places_within (length c.args.self.now.text.now) in omega arith)
+    (omega (arith, c.earliest-branch.ensures.most))
+    (subst (λ x. c.rebuild.new.steps + 2 * q ≤ c.earliest-branch.new.steps + 4 * (weight x * q)) c.earliest-branch.ensures.first.is c.rebuild.ensures.most)
+
+pub rebuild_branch-returns-then-count-eq0-clause-groups : goal.rebuild_branch-returns-then-count-eq0-clause-groups
+rebuild_branch-returns-then-count-eq0-clause-groups g t c =
     let F = c.args.self.now.fold in
     let W = c.args.self.now.text.now in
-    let P : Tree → Option Span → Type 0 = λ x last. (ps : Parses) → AreGreatest (AreIterations (IsParse F W x) c.in-Rep.least c.in-Rep.most 0 c.args.from c.args.to) ps → LeavesGroupsOf F W x c.args.from ps last in
-    rep_empty F W c.args.from c.args.to c.args.groups.now c.args.groups.now tree c.in-Rep.least c.in-Rep.most (sym c.in-Rep.ensures)
-    (subst (λ x. P x None) c.child-child.ensures.part (subst (λ o. P (tree_at c.args.self.now.ere.now c.child-child.result) o) c.in-None.is c.in_ok-last-in-Rep.ensures.groups))
-    refl
+    let tree = tree_of c.args.self.now.ere.now c.args.table.now c.args.number in
+    branch_is_rebuilt F W c.args.over.from c.args.over.to c.args.groups.now c.args.groups.now tree c.requires.kind
+    (have_ended F W (parts_of tree) c.args.over.from c.args.over.to 0 c.args.over.from c.args.groups.now c.args.groups.now
+    (sym c.if-count-eq0.true ∙ c.count_inside-count.ensures)
+    (have_begun F W (parts_of tree) c.args.over.from c.args.over.to c.args.groups.now c.requires.within
+    (branch_reaches F W tree c.args.over.from c.args.over.to c.requires.kind c.requires.reached)))
 
-pub rebuild-returns-in-Some : goal.rebuild-returns-in-Some
-rebuild-returns-in-Some g t c =
-    let tree = tree_at c.args.self.now.ere.now c.args.at in
-    let F = c.args.self.now.fold in
-    let W = c.args.self.now.text.now in
-    let new = c.rebuild-in-Some.new.groups in
-    let P : Tree → Option Span → Type 0 = λ x last. (ps : Parses) → AreGreatest (AreIterations (IsParse F W x) c.in-Rep.least c.in-Rep.most 0 c.args.from c.args.to) ps → LeavesGroupsOf F W x c.args.from ps last in
-    map_on_ok (IsRebuilt F W c.in-Some.last.from c.in-Some.last.to c.args.groups.now new c.args.groups.now (tree_at c.args.self.now.ere.now c.child-child.result))
-    (IsRebuilt F W c.args.from c.args.to c.args.groups.now new c.args.groups.now tree)
-    c.rebuild-in-Some.result
-    (λ h. rep_rebuilt F W c.args.from c.args.to c.args.groups.now new tree c.in-Rep.least c.in-Rep.most c.in-Some.last (sym c.in-Rep.ensures)
-    (subst (λ x. P x (Some c.in-Some.last)) c.child-child.ensures.part (subst (λ o. P (tree_at c.args.self.now.ere.now c.child-child.result) o) c.in-Some.is c.in_ok-last-in-Rep.ensures.groups))
-    (subst (λ x. IsRebuilt F W c.in-Some.last.from c.in-Some.last.to c.args.groups.now new c.args.groups.now x) c.child-child.ensures.part h))
-    c.rebuild-in-Some.ensures
+pub rebuild_branch-returns-then-count-eq0-clause-most : goal.rebuild_branch-returns-then-count-eq0-clause-most
+rebuild_branch-returns-then-count-eq0-clause-most g t c = spent_empty (tree_of c.args.self.now.ere.now c.args.table.now c.args.number)
+    (square c.args.self.now.text.now) c.args.steps.now c.requires.kind (sym c.count_inside-count.ensures ∙ c.if-count-eq0.true)
+
+pub rebuild_branch-loop-k-init : goal.rebuild_branch-loop-k-init
+rebuild_branch-loop-k-init g t c = (
+  have_begun c.args.self.now.fold c.args.self.now.text.now (parts_of (tree_of c.args.self.now.ere.now c.args.table.now c.args.number)) c.args.over.from c.args.over.to
+      c.args.groups.now c.requires.within
+      (branch_reaches c.args.self.now.fold c.args.self.now.text.now (tree_of c.args.self.now.ere.now c.args.table.now c.args.number) c.args.over.from c.args.over.to
+      c.requires.kind c.requires.reached),
+  omega arith,
+)
+
+pub rebuild_branch-piece_end-requires-clause-rests : goal.rebuild_branch-piece_end-requires-clause-rests
+rebuild_branch-piece_end-requires-clause-rests g t c = (c.requires.parts c.args.number c.requires.there).rests c.args.over.from c.args.over.to
+    c.requires.within c.requires.reached
+
+pub rebuild_branch-piece_end-requires-clause-end : goal.rebuild_branch-piece_end-requires-clause-end
+rebuild_branch-piece_end-requires-clause-end g t c = reaches_inside c.args.self.now.fold c.args.self.now.text.now
+    (tree_of c.args.self.now.ere.now c.args.table.now c.args.number) c.args.over.from c.args.over.to c.requires.within c.requires.reached
+
+pub rebuild_branch-returns-in_default-clause-groups : goal.rebuild_branch-returns-in_default-clause-groups
+rebuild_branch-returns-in_default-clause-groups g t c = absurd (have_not_stopped c.args.self.now.fold c.args.self.now.text.now
+    (parts_of (tree_of c.args.self.now.ere.now c.args.table.now c.args.number)) c.args.over.from c.args.over.to c.loop-k.k c.loop-k.place c.args.groups.now c.loop-k.groups
+    (omega (arith, c.loop-k-test.true, c.count_inside-count.ensures)) c.in_default.ensures.end c.loop-k.invariant.0)
+
+pub rebuild_branch-returns-in_default-clause-most : goal.rebuild_branch-returns-in_default-clause-most
+rebuild_branch-returns-in_default-clause-most g t c = absurd (have_not_stopped c.args.self.now.fold c.args.self.now.text.now
+    (parts_of (tree_of c.args.self.now.ere.now c.args.table.now c.args.number)) c.args.over.from c.args.over.to c.loop-k.k c.loop-k.place c.args.groups.now c.loop-k.groups
+    (omega (arith, c.loop-k-test.true, c.count_inside-count.ensures)) c.in_default.ensures.end c.loop-k.invariant.0)
 
 pub rebuild_branch-loop-k-preserved : goal.rebuild_branch-loop-k-preserved
 rebuild_branch-loop-k-preserved g t c =
-    let ts = parts_of (tree_at c.args.self.now.ere.now c.args.at) in
     let F = c.args.self.now.fold in
     let W = c.args.self.now.text.now in
-    record {
-      same = c.loop-k.invariant.same;
-      earlier = not_this_branch F W ts c.args.from c.args.to c.loop-k.k
-          (λ h. let there = c.in_ok-ends.ensures.all c.args.to (subst (λ x. Reaches (IsParse F W x) c.args.from c.args.to) (sym c.child-child.ensures.part) h) in
-          let e : c.has-in-loop-k.result ≡ true = c.has-in-loop-k.ensures.1 there in cc (e, c.if-has.false))
-          c.loop-k.invariant.earlier;
-    }
+    let ts = parts_of (tree_of c.args.self.now.ere.now c.args.table.now c.args.number) in
+    let less : c.loop-k.k < count_of ts = omega (arith, c.loop-k-test.true, c.count_inside-count.ensures) in (
+      have_gone_on F W ts c.args.over.from c.args.over.to c.loop-k.k c.loop-k.place c.in-Some.end c.args.groups.now c.loop-k.groups c.rebuild.new.groups less
+          c.in-Some.ensures.end
+          (subst (λ x. AddsGroups F W x (record { from = c.loop-k.place; to = c.in-Some.end }) c.loop-k.groups c.rebuild.new.groups) c.inside-piece.ensures.tree c.rebuild.ensures.groups)
+          c.loop-k.invariant.0,
+      spent_piece ts c.loop-k.k (length W) c.args.steps.now c.loop-k.steps c.piece_end.new.steps c.rebuild.new.steps less c.loop-k.invariant.1 c.in-Some.ensures.most
+          (subst (λ x. c.rebuild.new.steps + 2 * square W ≤ c.piece_end.new.steps + 4 * (weight x * square W)) c.inside-piece.ensures.tree c.rebuild.ensures.most),
+    )
 
-pub rebuild_branch-returns-then-has : goal.rebuild_branch-returns-then-has
-rebuild_branch-returns-then-has g t c =
-    let ts = parts_of (tree_at c.args.self.now.ere.now c.args.at) in
+pub rebuild_branch-last_piece-piece-requires-clause-some : goal.rebuild_branch-last_piece-piece-requires-clause-some
+rebuild_branch-last_piece-piece-requires-clause-some g t c =
+    subst (λ x. 0 < x) c.count_inside-count.ensures (not_zero c.count_inside-count.result c.if-count-eq0.false)
+
+pub rebuild_branch-last_piece-piece-requires-clause-left : goal.rebuild_branch-last_piece-piece-requires-clause-left
+rebuild_branch-last_piece-piece-requires-clause-left g t c =
+    let ts = parts_of (tree_of c.args.self.now.ere.now c.args.table.now c.args.number) in
+    let end : c.loop-k.k ≡ count_of ts - 1 = omega (arith, c.loop-k-test.false, c.loop-k.auto.k-end, c.count_inside-count.ensures) in
+    subst (λ x. RowReaches (ArePieces c.args.self.now.fold c.args.self.now.text.now (parts_from x ts)) c.loop-k.place c.args.over.to) end c.loop-k.invariant.0.reached
+
+pub rebuild_branch-returns-clause-groups : goal.rebuild_branch-returns-clause-groups
+rebuild_branch-returns-clause-groups g t c =
     let F = c.args.self.now.fold in
     let W = c.args.self.now.text.now in
-    let new = c.rebuild.new.groups in
-    map_on_ok (IsRebuilt F W c.args.from c.args.to c.args.groups.now new c.loop-k.groups (tree_at c.args.self.now.ere.now c.child-child.result))
-    ((d : ℕ) (a : Parses) → IsGreatestParse (λ e b. IsBranch F W ts e c.args.from c.args.to b) d a → new ≡ with_groups c.args.groups.now (groups_of_branch ts d c.args.from a))
-    c.rebuild.result
-    (λ h d a. branch_rebuilt F W ts c.args.from c.args.to c.loop-k.k c.args.groups.now new d a
-    (subst (λ n. c.loop-k.k < n) c.children-k-end.ensures c.loop-k-test.true) c.loop-k.invariant.earlier
-    (subst (λ x. Reaches (IsParse F W x) c.args.from c.args.to) c.child-child.ensures.part (c.in_ok-ends.ensures.each c.args.to (c.has-in-loop-k.ensures.0 c.if-has.true)))
-    (subst (λ x. IsRebuilt F W c.args.from c.args.to c.args.groups.now new x (part ts c.loop-k.k)) c.loop-k.invariant.same
-    (subst (λ x. IsRebuilt F W c.args.from c.args.to c.args.groups.now new c.loop-k.groups x) c.child-child.ensures.part h)))
-    c.rebuild.ensures
+    let tree = tree_of c.args.self.now.ere.now c.args.table.now c.args.number in
+    let some : 0 < count_of (parts_of tree) =
+    subst (λ x. 0 < x) c.count_inside-count.ensures (not_zero c.count_inside-count.result c.if-count-eq0.false) in
+    let end : c.loop-k.k ≡ count_of (parts_of tree) - 1 = omega (arith, c.loop-k-test.false, c.loop-k.auto.k-end, c.count_inside-count.ensures) in
+    branch_is_rebuilt F W c.args.over.from c.args.over.to c.args.groups.now c.rebuild-2.new.groups tree c.requires.kind
+    (have_taken_all F W (parts_of tree) c.args.over.from c.args.over.to (count_of (parts_of tree) - 1) c.loop-k.place c.args.groups.now c.loop-k.groups c.rebuild-2.new.groups
+    (omega (arith, some))
+    (subst (λ x. AddsGroups F W x (record { from = c.loop-k.place; to = c.args.over.to }) c.loop-k.groups c.rebuild-2.new.groups) c.last_piece-piece.ensures.tree c.rebuild-2.ensures.groups)
+    (subst (λ x. HaveCome F W (parts_of tree) c.args.over.from c.args.over.to x c.loop-k.place c.args.groups.now c.loop-k.groups) end c.loop-k.invariant.0))
 
-pub rebuild_branch-returns : goal.rebuild_branch-returns
-rebuild_branch-returns g t c = λ d a greatest.
-    let e : c.loop-k.k ≡ c.children-k-end.result = omega arith in
-    absurd (no_branch c.args.self.now.fold c.args.self.now.text.now (parts_of (tree_at c.args.self.now.ere.now c.args.at)) c.args.from c.args.to c.loop-k.k d a
-    (e ∙ c.children-k-end.ensures) c.loop-k.invariant.earlier greatest)
+pub rebuild_branch-returns-clause-most : goal.rebuild_branch-returns-clause-most
+rebuild_branch-returns-clause-most g t c =
+    let q = square c.args.self.now.text.now in
+    let tree = tree_of c.args.self.now.ere.now c.args.table.now c.args.number in
+    let some : 0 < count_of (parts_of tree) =
+    subst (λ x. 0 < x) c.count_inside-count.ensures (not_zero c.count_inside-count.result c.if-count-eq0.false) in
+    let end : c.loop-k.k ≡ count_of (parts_of tree) - 1 = omega (arith, c.loop-k-test.false, c.loop-k.auto.k-end, c.count_inside-count.ensures) in
+    spent_last tree (count_of (parts_of tree) - 1) q c.args.steps.now c.loop-k.steps c.rebuild-2.new.steps c.requires.kind (omega (arith, some))
+    (subst (λ x. c.loop-k.steps ≤ c.args.steps.now + 4 * (weights_to x (parts_of tree) * q)) end c.loop-k.invariant.1)
+    (subst (λ x. c.rebuild-2.new.steps + 2 * q ≤ c.loop-k.steps + 4 * (weight x * q)) c.last_piece-piece.ensures.tree c.rebuild-2.ensures.most)
 
-pub rebuild_pieces-loop-k-preserved : goal.rebuild_pieces-loop-k-preserved
-rebuild_pieces-loop-k-preserved g t c =
-    let ts = parts_of (tree_at c.args.self.now.ere.now c.args.at) in
+pub rebuild_rep-last_iteration-requires-clause-rests : goal.rebuild_rep-last_iteration-requires-clause-rests
+rebuild_rep-last_iteration-requires-clause-rests g t c = (c.requires.parts c.args.rep.number c.requires.there).rests c.args.over.from c.args.over.to
+    c.requires.within c.requires.reached
+
+pub rebuild_rep-last_iteration-requires-clause-end : goal.rebuild_rep-last_iteration-requires-clause-end
+rebuild_rep-last_iteration-requires-clause-end g t c = reaches_inside c.args.self.now.fold c.args.self.now.text.now
+    (tree_of c.args.self.now.ere.now c.args.table.now c.args.rep.number) c.args.over.from c.args.over.to c.requires.within c.requires.reached
+
+pub rebuild_rep-returns-in-Some-clause-groups : goal.rebuild_rep-returns-in-Some-clause-groups
+rebuild_rep-returns-in-Some-clause-groups g t c =
     let F = c.args.self.now.fold in
     let W = c.args.self.now.text.now in
-    have_gone_on F W ts c.args.from c.args.to c.loop-k.k c.loop-k.place c.in-Some.end c.args.groups.now c.loop-k.groups c.rebuild.new.groups
-    (subst (λ n. c.loop-k.k < n) c.children-k-end.ensures c.loop-k-test.true)
-    (subst (λ x. TellsLongest (IsHeadEnd (IsParse F W (part ts c.loop-k.k)) (ArePieces F W (parts_from (c.loop-k.k + 1) ts)) c.loop-k.place c.args.to) x) c.in-Some.is c.in_ok-end.ensures)
-    (subst (λ x. IsRebuilt F W c.loop-k.place c.in-Some.end c.loop-k.groups c.rebuild.new.groups c.loop-k.groups x) c.child.ensures.part c.in_ok-rebuild.ensures)
-    c.loop-k.invariant
+    let tree = tree_of c.args.self.now.ere.now c.args.table.now c.args.rep.number in
+    rep_rebuilt F W c.args.over.from c.args.over.to c.args.groups.now c.rebuild.new.groups tree c.args.rep.least c.args.rep.most c.in-Some.last c.requires.kind
+    c.in-Some.ensures.groups
+    (subst (λ x. AddsGroups F W x c.in-Some.last c.args.groups.now c.rebuild.new.groups) c.inside-part.ensures.tree c.rebuild.ensures.groups)
 
-pub rebuild_pieces-returns-in_default : goal.rebuild_pieces-returns-in_default
-rebuild_pieces-returns-in_default g t c = λ ps greatest.
-    let ts = parts_of (tree_at c.args.self.now.ere.now c.args.at) in
+pub rebuild_rep-returns-in-Some-clause-most : goal.rebuild_rep-returns-in-Some-clause-most
+rebuild_rep-returns-in-Some-clause-most g t c =
     let F = c.args.self.now.fold in
     let W = c.args.self.now.text.now in
-    absurd (have_not_stopped F W ts c.args.from c.args.to c.loop-k.k c.loop-k.place c.args.groups.now c.loop-k.groups
-    (subst (λ n. c.loop-k.k < n) c.children-k-end.ensures c.loop-k-test.true)
-    (subst (λ x. TellsLongest (IsHeadEnd (IsParse F W (part ts c.loop-k.k)) (ArePieces F W (parts_from (c.loop-k.k + 1) ts)) c.loop-k.place c.args.to) x) c.in_default.is c.in_ok-end.ensures)
-    c.loop-k.invariant ps greatest)
+    let tree = tree_of c.args.self.now.ere.now c.args.table.now c.args.rep.number in
+    let r : Reaches (IsParse F W (part (parts_of tree) 0)) c.in-Some.last.from c.in-Some.last.to = c.in-Some.ensures.reached in
+    spent_turns tree c.args.rep.least c.args.rep.most (length W) c.args.steps.now c.last_iteration.new.steps c.rebuild.new.steps c.requires.kind
+    (weighs F W (part (parts_of tree) 0) c.in-Some.last.from c.in-Some.last.to r.0 r.1 r.2) c.in-Some.ensures.most
+    (subst (λ x. c.rebuild.new.steps + 2 * square W ≤ c.last_iteration.new.steps + 4 * (weight x * square W)) c.inside-part.ensures.tree c.rebuild.ensures.most)
 
-pub rebuild_pieces-returns : goal.rebuild_pieces-returns
-rebuild_pieces-returns g t c =
-    let e : c.loop-k.k ≡ c.children-k-end.result = omega arith in
-    have_ended c.args.self.now.fold c.args.self.now.text.now (parts_of (tree_at c.args.self.now.ere.now c.args.at)) c.args.from c.args.to
-    c.loop-k.k c.loop-k.place c.args.groups.now c.loop-k.groups (e ∙ c.children-k-end.ensures) c.loop-k.invariant
+pub rebuild_rep-returns-in_default-clause-groups : goal.rebuild_rep-returns-in_default-clause-groups
+rebuild_rep-returns-in_default-clause-groups g t c = rep_empty c.args.self.now.fold c.args.self.now.text.now c.args.over.from c.args.over.to
+    c.args.groups.now c.args.groups.now (tree_of c.args.self.now.ere.now c.args.table.now c.args.rep.number) c.args.rep.least c.args.rep.most c.requires.kind
+    c.in_default.ensures.groups refl
+
+pub rebuild_rep-returns-in_default-clause-most : goal.rebuild_rep-returns-in_default-clause-most
+rebuild_rep-returns-in_default-clause-most g t c = spent_no_turn (tree_of c.args.self.now.ere.now c.args.table.now c.args.rep.number)
+    c.args.rep.least c.args.rep.most (length c.args.self.now.text.now) c.args.steps.now c.last_iteration.new.steps c.requires.kind c.in_default.ensures.none

@@ -1,7 +1,11 @@
-use Rattle.posix_ere.specs.Nodes.{tree_at}
-use Rattle.submatch.proofs.Rebuilding.{HasCome}
+use Rattle.std.proofs.Common.{◌+◌, ◌*◌, ◌≤◌, length}
+use Rattle.posix_ere.specs.Parts.{parts_of, part}
+use Rattle.submatch.specs.Table.{tree_of}
+use Rattle.submatch.proofs.Iterating.{HasCome}
 use Rattle.submatch.proofs.search.Search.last_iteration.Given as goal
 
-abbrev pub invariant-loop-k : goal.invariant-loop-k
-invariant-loop-k g l =
-    HasCome l.self.fold l.self.text.now (tree_at l.self.ere.now l.child) l.least l.most l.from l.to l.k l.place l.last
+abbrev pub invariant-loop-done : goal.invariant-loop-done
+invariant-loop-done g l =
+    HasCome l.self.fold l.self.text.now (part (parts_of (tree_of l.self.ere.now l.table l.rep.number)) 0) l.rep.least l.rep.most l.over.from l.over.to
+    l.done l.place l.last ×
+    (l.steps ≤ l.fn.steps + l.done * (length l.self.text.now + 2))

@@ -1,0 +1,73 @@
+//! Rows: places of a text as bits.
+ghost use Rattle.std.specs.Prelude.{◌≡◌, ◌<◌, ◌↔◌, IsTrue};
+ghost use Rattle.submatch.specs.Rows.{Has, AddsPlaces, AreEnds};
+
+use std::marker::Model;
+
+/// Places of a text of at most 255 bytes, a bit for each.
+#[derive(Clone, Copy, Drop)]
+pub(crate) struct Row {
+    words: [u64; 4],
+}
+
+impl Model for Row {
+    ghost use Rattle.std.specs.Prelude.{◌≡◌, length};
+    ghost use Rattle.submatch.specs.Rows.{Row as Words};
+
+    ghost Value = { Words };
+
+    ghost view = { λ r. r.words };
+
+    ghost inverse = { λ ws. record { words = ws } };
+
+    ghost invariant = { λ r. length r.words ≡ 4 };
+}
+
+impl Row {
+    /// No places.
+    pub(crate) fn new() -> Row
+        ensures { AreEnds (λ j. ⊥) result }
+    {
+        Row { words: [0; 4] }
+    }
+
+    /// This place alone where something holds, and else none.
+    pub(crate) fn one(holds: bool, place: u16) -> Row
+        requires { place < 256 }
+        ensures { AreEnds (λ j. IsTrue holds × (place ≡ j)) result }
+    {
+        let mut row = Row::new();
+        if holds {
+            row.add(place);
+        }
+        row
+    }
+
+    /// Whether it has the place.
+    pub(crate) fn has(&self, place: u16) -> bool
+        requires { place < 256 }
+        ensures { IsTrue result ↔ Has self.now place }
+    {
+        self.words[usize::from(place / 64)] >> (place % 64) & 1 == 1
+    }
+
+    /// Adds the place.
+    pub(crate) fn add(&mut self, place: u16)
+        requires { place < 256 }
+        ensures { AddsPlaces (λ j. place ≡ j) self.old self.new }
+    {
+        self.words[usize::from(place / 64)] |= 1 << (place % 64);
+    }
+
+    /// Adds the places of another row.
+    pub(crate) fn join(&mut self, other: &Row)
+        ensures { AddsPlaces (Has other.now) self.old self.new }
+    {
+        self.words = [
+            self.words[0] | other.words[0],
+            self.words[1] | other.words[1],
+            self.words[2] | other.words[2],
+            self.words[3] | other.words[3],
+        ];
+    }
+}
