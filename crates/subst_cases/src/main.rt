@@ -15,16 +15,15 @@ use std::io;
 fn main(rt: HostRuntime) -> io::Result<()> {
     let alloc = rt.alloc();
     for line in rt.lines(alloc) {
-        let line = line?;
-        let told = told_of(alloc, line.as_str())?;
-        println!(rt; "{line} => {told}")?;
+        let case = line?;
+        println!(rt; "{case} => {}", told_of(alloc, case.as_str())?)?;
     }
     Ok(())
 }
 
 // What the calls of one case answer.
-fn told_of(alloc: Global, line: &str) -> Result<String, AllocError> {
-    let (verb, rest) = line.split_once(' ').unwrap_or((line, ""));
+fn told_of(alloc: Global, case: &str) -> Result<String, AllocError> {
+    let (verb, rest) = case.split_once(' ').unwrap_or((case, ""));
     let (text, aus) = rest.split_once(" on ").unwrap_or((rest, ""));
     let text = unescaped(alloc, text)?;
     let aus = unescaped(alloc, aus)?;
