@@ -1,0 +1,12 @@
+pub mod AddressLemmas
+pub mod CutLemmas
+pub mod EntryLemmas
+pub mod ReaderLemmas
+pub mod RecordLemmas
+pub mod RunLemmas
+pub mod ScanLemmas
+pub mod StringLemmas
+pub mod TextLemmas
+pub mod TimeLemmas
+pub mod TokenLemmas
+pub mod WholeLemmas

@@ -1,0 +1,14 @@
+pub mod Addresses
+pub mod Bytes
+pub mod Data
+pub mod Entries
+pub mod Fed
+pub mod Fields
+pub mod Meaning
+pub mod Read
+pub mod Reading
+pub mod Texts
+pub mod Times
+pub mod Token
+pub mod Tokens
+pub mod Zone

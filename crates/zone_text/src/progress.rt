@@ -1,0 +1,147 @@
+//! What was read of a text.
+ghost use Rattle.std.specs.Prelude.{◌≡◌, ◌≢◌, ◌+◌, ◌==◌, ◌∷◌, [], ◌++◌, ◌≤◌, IsTrue, count_by, length, map, IfErr, OnOk, Ok, Err};
+ghost use Rattle.std.specs.List.{list_all};
+ghost use Rattle.dns_wire.specs.Kinds.{is_whole};
+ghost use Rattle.zone_text.specs.declared.fault.TextWhy.TheVariants.{Memory};
+ghost use Rattle.zone_text.specs.Bytes.{line_feed};
+ghost use Rattle.zone_text.specs.Meaning.{is_whole_meaning};
+ghost use Rattle.zone_text.specs.Zone.{lines_in, most_bytes, most_records, said_in, standing_behind, unless_full};
+ghost use Rattle.zone_text.specs.Reading.{is_plain, said_of};
+
+use crate::fault::{TextFault, TextWhy};
+use crate::meaning::{Meaning, Standing, Statement};
+use dns_name::Name;
+use dns_wire::{Record, Records};
+use std::alloc::Global;
+
+/// The most bytes of a text: 64 MiB.
+pub const MOST_BYTES: usize = 67_108_864;
+
+// The most records of a text.
+const MOST_RECORDS: usize = 100_000;
+
+/// The entries so far: what stands behind them, where they end, and their records.
+#[derive(Drop)]
+pub struct Progress {
+    pub standing: Standing,
+    /// The line behind them, counted from 1.
+    pub line: u32,
+    /// How many bytes they have.
+    pub size: usize,
+    pub records: Records,
+    ghost within: { size ≤ most_bytes },
+    ghost lines: { line ≤ size + 1 },
+    ghost plain: { IsTrue (list_all is_plain records) },
+}
+
+// How many line feeds there are.
+fn lines_in(bytes: &[u8]) -> usize
+    ensures value { result ≡ lines_in bytes.now }
+    ensures most { result ≤ length bytes.now }
+{
+    bytes.iter().filter(|byte| **byte == b'\n').count()
+}
+
+impl Standing {
+    // What stands behind an entry of this meaning.
+    fn advance(&mut self, meaning: &Meaning)
+        ensures { self.new ≡ standing_behind self.old meaning.now }
+    {
+        match meaning {
+            Meaning::Nothing => {}
+            Meaning::Origin(name) => self.origin = *name,
+            Meaning::DefaultTtl(ttl) => self.default_ttl = Some(*ttl),
+            Meaning::Record(said) => {
+                self.owner = Some(said.owner);
+                self.last_ttl = Some(said.ttl);
+            }
+        }
+    }
+}
+
+// Appends the record.
+fn push(records: &mut Records, said: Statement) -> Result<(), TextWhy>
+    requires whole { IsTrue (is_whole said.content) }
+    requires plain { IsTrue (list_all is_plain records.old) }
+    ensures ok { OnOk result (map said_of records.new ≡ map said_of records.old ++ said ∷ []) }
+    ensures plain { IsTrue (list_all is_plain records.new) }
+    ensures err { IfErr result (λ why. why ≡ Memory) }
+{
+    records.push(Record::new(said.owner, said.ttl, said.content))?;
+    Ok(())
+}
+
+// Appends what the entry states, unless there are too many.
+fn append(records: &mut Records, meaning: Meaning) -> Result<(), TextWhy>
+    requires whole { IsTrue (is_whole_meaning meaning) }
+    requires plain { IsTrue (list_all is_plain records.old) }
+    ensures ok { OnOk result (map said_of records.new ≡ map said_of records.old ++ said_in meaning) }
+    ensures fits { OnOk result (unless_full (length records.old) meaning ≡ Ok meaning) }
+    ensures plain { IsTrue (list_all is_plain records.new) }
+    ensures err { IfErr result (λ why. why ≢ Memory → unless_full (length records.old) meaning ≡ Err why) }
+{
+    match meaning {
+        Meaning::Record(said) => {
+            if records.as_slice().len() == MOST_RECORDS {
+                return Err(TextWhy::TooMany);
+            }
+            push(records, said)
+        }
+        _ => Ok(()),
+    }
+}
+
+impl Progress {
+    ghost use Rattle.zone_text.specs.Meaning.{entry_of};
+    ghost use Rattle.zone_text.specs.Read.{seen};
+    ghost use Rattle.zone_text.specs.Reading.{unread};
+
+    /// No entry yet.
+    pub fn new(alloc: Global, origin: Name) -> Progress
+        ensures { seen result ≡ unread origin }
+    {
+        Progress {
+            standing: Standing {
+                origin,
+                owner: None,
+                default_ttl: None,
+                last_ttl: None,
+            },
+            line: 1,
+            size: 0,
+            records: Records::new(alloc),
+        }
+    }
+
+    ghost use Rattle.zone_text.specs.Zone.{entry_within};
+    ghost use Rattle.zone_text.specs.Reading.{step};
+
+    // One entry more, or why it is broken.
+    fn try_read(&mut self, alloc: Global, entry: &[u8]) -> Result<(), TextWhy>
+        ensures ok { OnOk result (step (seen self.old) entry.now ≡ Ok (seen self.new)) }
+        ensures err { IfErr result (λ why. why ≢ Memory
+            → entry_within (self.old.size + length entry.now) (length self.old.records) self.old.standing entry.now ≡ Err why) }
+    {
+        if entry.len() > MOST_BYTES - self.size {
+            return Err(TextWhy::TooLarge);
+        }
+        let meaning = self.standing.read_entry(alloc, entry)?;
+        self.standing.advance(&meaning);
+        append(&mut self.records, meaning)?;
+        self.line += lines_in(entry) as u32;
+        self.size += entry.len();
+        Ok(())
+    }
+
+    /// One entry more, or its fault with the line on which it begins.
+    pub fn read(&mut self, alloc: Global, entry: &[u8]) -> Result<(), TextFault>
+        ensures ok { OnOk result (step (seen self.old) entry.now ≡ Ok (seen self.new)) }
+        ensures err { IfErr result (λ fault. fault.why ≢ Memory → step (seen self.old) entry.now ≡ Err fault) }
+    {
+        let line = self.line;
+        match self.try_read(alloc, entry) {
+            Ok(()) => Ok(()),
+            Err(why) => Err(TextFault { line, why }),
+        }
+    }
+}

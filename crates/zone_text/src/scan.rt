@@ -1,0 +1,49 @@
+//! The entries of a text that comes in pieces.
+ghost use Rattle.std.specs.Prelude.{◌≡◌, ◌≢◌, ◌-◌, ◌≤◌, length, take, drop, slice_index, ◌<◌, ◌++◌, ◌∷◌, [], IfOk, IfErr, Ok, Err};
+ghost use Rattle.zone_text.specs.declared.fault.TextWhy.TheVariants.{Memory};
+ghost use Rattle.zone_text.specs.Entries.{ended_from};
+ghost use Rattle.zone_text.specs.Read.{seen};
+ghost use Rattle.zone_text.specs.Reading.{rest_from, run};
+
+use crate::fault::TextFault;
+use crate::progress::Progress;
+use crate::spot::Spot;
+use std::alloc::Global;
+
+/// Reads the entries that end from a place on, where an entry is begun and leads to a spot; the spot at the end.
+pub fn read_ended(
+    alloc: Global,
+    text: &[u8],
+    at: usize,
+    spot: Spot,
+    progress: &mut Progress,
+) -> Result<Spot, TextFault>
+    requires { (progress.old.size ≤ at) × (at ≤ length text.now) }
+    ensures ok { let begun = take (at - progress.old.size) (drop progress.old.size text.now) in
+        IfOk result (λ _. run (seen progress.old) (ended_from begun spot (drop at text.now)) ≡ Ok (seen progress.new)) }
+    ensures rest { let begun = take (at - progress.old.size) (drop progress.old.size text.now) in
+        IfOk result (λ last. rest_from begun spot (drop at text.now) ≡ (drop progress.new.size text.now, last)) }
+    ensures within { IfOk result (λ _. progress.new.size ≤ length text.now) }
+    ensures err { let begun = take (at - progress.old.size) (drop progress.old.size text.now) in
+        IfErr result (λ fault. fault.why ≢ Memory → run (seen progress.old) (ended_from begun spot (drop at text.now)) ≡ Err fault) }
+{
+    let mut spot = spot;
+    for here in at..text.len() {
+        let byte = text[here];
+        if spot.is_end(byte) {
+            progress.read(alloc, entry_of(text, progress.size, here))?;
+            spot = Spot::beginning();
+        } else {
+            spot = spot.behind(byte);
+        }
+    }
+    Ok(spot)
+}
+
+// The bytes from a place to another and with the byte there.
+fn entry_of(text: &[u8], from: usize, to: usize) -> &[u8]
+    requires { (from ≤ to) × (to < length text.now) }
+    ensures { result.now ≡ take (to - from) (drop from text.now) ++ slice_index text.now to ∷ [] }
+{
+    &text[from..to + 1]
+}
