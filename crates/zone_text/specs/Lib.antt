@@ -2,6 +2,7 @@ pub mod Addresses
 pub mod Bytes
 pub mod Data
 pub mod Entries
+pub mod FaultWords
 pub mod Fed
 pub mod Fields
 pub mod Meaning

@@ -1,6 +1,9 @@
 //! Why a text is no zone text.
+ghost use Rattle.std.specs.Prelude.{◌≡◌, ◌≤◌, length};
+ghost use Rattle.zone_text.specs.FaultWords.{name_of, text_fault};
 
-use enum_base::MemoryFault;
+use enum_base::{Buffer, FaultWords, MemoryFault};
+use itoa::Buffer as Digits;
 
 /// What is wrong with the first broken entry of a zone text.
 #[derive(Clone, Copy, Debug, PartialEq, Eq)]
@@ -52,4 +55,43 @@ pub struct TextFault {
     /// The line on which the broken entry begins, counted from 1.
     pub line: u32,
     pub why: TextWhy,
+}
+
+impl TextWhy {
+    // The name of the reason.
+    fn name(self) -> &'static str
+        ensures value { result.now ≡ name_of self }
+        ensures short { length result.now ≤ 40 }
+    {
+        match self {
+            TextWhy::BadToken => "BadToken",
+            TextWhy::OpenQuote => "OpenQuote",
+            TextWhy::OpenParen => "OpenParen",
+            TextWhy::BadName => "BadName",
+            TextWhy::BadTtl => "BadTtl",
+            TextWhy::NoTtl => "NoTtl",
+            TextWhy::UnknownType => "UnknownType",
+            TextWhy::UnknownDirective => "UnknownDirective",
+            TextWhy::BadData => "BadData",
+            TextWhy::NoOwner => "NoOwner",
+            TextWhy::WrongClass => "WrongClass",
+            TextWhy::TooMany => "TooMany",
+            TextWhy::TooLarge => "TooLarge",
+            TextWhy::Memory => "Memory",
+        }
+    }
+}
+
+impl TextFault {
+    /// The line, and the name of the reason behind a space.
+    pub fn words(&self) -> FaultWords
+        ensures { result ≡ text_fault self.now }
+    {
+        let mut digits = Digits::new();
+        let mut words = Buffer::new();
+        words.push_slice(digits.format(self.line).as_bytes());
+        words.push(b' ');
+        words.push_slice(self.why.name().as_bytes());
+        words
+    }
 }
