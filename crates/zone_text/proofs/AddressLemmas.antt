@@ -1,4 +1,4 @@
-use Rattle.std.proofs.Common.{◌≡◌, ◌∙◌, ℕ, zero, suc, ◌+◌, ◌-◌, ◌<◌, ◌≤◌, List, [], ◌∷◌, ◌++◌, length, Bool, Option, Some, None, refl, sym, ap, arith, append_assoc, sub-one, add-one}
+use Rattle.std.proofs.Common.{◌≡◌, ◌∙◌, ℕ, zero, suc, ◌-◌, ◌<◌, List, ◌++◌, Bool, Some, None, refl, sym, ap, arith}
 use Rattle.zone_text.specs.Texts.{◌>>=◌}
 use Rattle.zone_text.specs.Addresses.{cut, colon, group_of, last_group, groups_of}
 use Rattle.zone_text.proofs.TextLemmas.{bytes_before, before-before}

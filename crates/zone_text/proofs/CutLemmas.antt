@@ -1,4 +1,4 @@
-use Rattle.std.proofs.Common.{◌≡◌, ℕ, ◌+◌, ◌-◌, List, length, take, drop, Option, Some, None, option_map, eqb, position, ap}
+use Rattle.std.proofs.Common.{◌≡◌, ℕ, ◌+◌, ◌-◌, List, length, take, drop, Some, None, option_map, eqb, position, ap}
 use Rattle.std.proofs.lemmas.List.{take_rest}
 use Rattle.zone_text.specs.Addresses.{cut, double_from, cut_double}
 

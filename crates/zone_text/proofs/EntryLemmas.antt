@@ -1,9 +1,9 @@
-use Rattle.std.proofs.Common.{◌≡◌, ◌∙◌, ◌⊎◌, ℕ, zero, suc, ◌+◌, ◌-◌, ◌<◌, ◌≤◌, List, [], ◌∷◌, ◌++◌, length, take, drop, Bool, true, false, cond, Result, Ok, Err, refl, sym, ap, inl, inr, subst, arith, append_assoc, length-append}
+use Rattle.std.proofs.Common.{◌≡◌, ◌∙◌, ℕ, ◌+◌, ◌<◌, ◌≤◌, List, [], ◌∷◌, ◌++◌, length, Bool, true, false, cond, Result, Ok, Err, refl, sym, ap, inl, inr, subst, arith, length-append}
 use Rattle.std.specs.Prelude.{nat_lt}
 use Rattle.std.proofs.lemmas.List.{append-nil}
-use Rattle.std.proofs.lemmas.Bool.{cond-true, cond-false, cond_both, lt-ltb}
+use Rattle.std.proofs.lemmas.Bool.{cond-true, cond_both, lt-ltb}
 use Rattle.naptr_data.specs.Zones.{Labels}
-use Rattle.zone_text.specs.Entries.{beginning, behind, ends_entry, entries_from, entries_of, ended_from, ended_of, last_entry}
+use Rattle.zone_text.specs.Entries.{beginning, behind, ends_entry, entries_from, entries_of, ended_from, ended_of}
 use Rattle.zone_text.specs.Zone.{most_bytes, bytes_of, entry_within, Break, BreaksSoFar, ZoneBreaks}
 use Rattle.zone_text.specs.Reading.{Read, unread, read_behind, on_line, step, run, rest_from, rest_of, ◌>>=◌}
 use Rattle.zone_text.specs.declared.spot.Spot.{Spot}

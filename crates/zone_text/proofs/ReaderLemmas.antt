@@ -1,14 +1,14 @@
-use Rattle.std.proofs.Common.{◌≡◌, ◌∙◌, ◌⊎◌, ℕ, zero, suc, ◌+◌, ◌-◌, ◌<◌, ◌≤◌, List, [], ◌∷◌, ◌++◌, length, take, drop, map, Bool, true, false, cond, Option, Some, None, Result, Ok, Err, refl, sym, ap, inl, inr, subst, arith, append_assoc, length-append}
-use Rattle.std.specs.Prelude.{◌==◌, ◌&&◌, min}
+use Rattle.std.proofs.Common.{◌≡◌, ◌∙◌, ℕ, ◌-◌, ◌<◌, ◌≤◌, List, [], ◌∷◌, ◌++◌, length, take, drop, map, true, Option, None, Result, Ok, Err, refl, sym, ap, inl, inr, subst, arith, append_assoc, length-append}
+use Rattle.std.specs.Prelude.{◌==◌, min}
 use Rattle.std.specs.List.{list_all}
 use Rattle.std.proofs.lemmas.List.{append-nil, drop-append-le, length-take, length-drop, take_all, take-append-drop}
 use Rattle.std.proofs.Math.Seq.{drop-append_seam, take-append_seam}
-use Rattle.std.proofs.lemmas.Bool.{cond_both, and_parts, eqb-true}
+use Rattle.std.proofs.lemmas.Bool.{and_parts, eqb-true}
 use Rattle.naptr_data.specs.Zones.{Labels}
 use Rattle.dns_wire.specs.Kinds.{internet, kind_of}
 use Rattle.dns_wire.specs.declared.record.Record as wire
-use Rattle.zone_text.specs.Entries.{beginning, behind, ends_entry, entries_from, entries_of, ended_from, ended_of, last_entry}
-use Rattle.zone_text.specs.Zone.{most_bytes, bytes_of, Say, Break, BreaksSoFar, ZoneSays, ZoneBreaks, Is, Are}
+use Rattle.zone_text.specs.Entries.{beginning, entries_from, entries_of, ended_from, ended_of, last_entry}
+use Rattle.zone_text.specs.Zone.{most_bytes, Break, BreaksSoFar, ZoneSays, ZoneBreaks, Are}
 use Rattle.zone_text.specs.Reading.{Read, unread, step, run, rest_from, rest_of, said_of, is_plain, ◌>>=◌}
 use Rattle.zone_text.specs.Fed.{Fed}
 use Rattle.zone_text.specs.Read.{seen, IsReading}

@@ -1,13 +1,13 @@
-use Rattle.std.proofs.Common.{◌≡◌, ◌∙◌, ◌⊎◌, ℕ, zero, suc, ◌+◌, ◌<◌, ◌≤◌, List, [], ◌∷◌, ◌++◌, length, Bool, true, false, Option, Some, None, Result, Ok, Err, refl, sym, ap, inl, inr, subst, arith, length-append}
-use Rattle.std.specs.Prelude.{IsTrue, nat_lt}
+use Rattle.std.proofs.Common.{◌≡◌, ◌∙◌, ◌⊎◌, ℕ, ◌<◌, ◌≤◌, List, [], ◌∷◌, length, true, refl, sym, ap, inl, inr, subst, arith}
+use Rattle.std.specs.Prelude.{IsTrue}
 use Rattle.std.proofs.Math.Bool.{Bool-set}
 use Rattle.naptr_data.specs.Zones.{Labels}
 use Rattle.dns_wire.specs.Kinds.{internet, kind_of, is_whole, belongs}
 use Rattle.dns_wire.specs.declared.content.Content.{Content}
 use Rattle.dns_wire.specs.declared.content.Content.TheVariants as content
 use Rattle.dns_wire.specs.declared.record.Record as wire
-use Rattle.zone_text.specs.Entries.{beginning, entries_of, ended_of}
-use Rattle.zone_text.specs.Zone.{most_bytes, beginning_with, standing_behind, Mean, statements_of, said_in, bytes_of, Is, Are, Say, Break, ZoneSays, ZoneBreaks, BreaksSoFar}
+use Rattle.zone_text.specs.Entries.{entries_of}
+use Rattle.zone_text.specs.Zone.{most_bytes, beginning_with, standing_behind, Mean, statements_of, Is, Are, Say, Break, ZoneSays, ZoneBreaks, BreaksSoFar}
 use Rattle.zone_text.specs.Meaning.{is_whole_meaning}
 use Rattle.zone_text.specs.declared.meaning.Standing.{Standing}
 use Rattle.zone_text.specs.declared.meaning.Statement.{Statement}

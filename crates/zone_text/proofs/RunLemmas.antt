@@ -1,11 +1,9 @@
-use Rattle.std.proofs.Common.{◌≡◌, ◌∙◌, ◌⊎◌, ℕ, zero, suc, ◌+◌, ◌-◌, ◌<◌, ◌≤◌, List, [], ◌∷◌, ◌++◌, length, Bool, true, false, cond, Result, Ok, Err, refl, sym, ap, inl, inr, subst, arith, add_assoc, zero-add, append_assoc, length-append}
+use Rattle.std.proofs.Common.{◌≡◌, ◌∙◌, ◌⊎◌, ℕ, ◌+◌, ◌≤◌, List, [], ◌∷◌, ◌++◌, length, Bool, true, false, cond, Result, Ok, Err, refl, sym, ap, inl, inr, subst, arith, append_assoc, length-append}
 use Rattle.std.specs.Prelude.{nat_lt, ◌==◌}
-use Rattle.std.specs.List.{flat_map}
 use Rattle.std.proofs.lemmas.List.{append-nil}
-use Rattle.std.proofs.lemmas.Bool.{cond-true, cond-false, eqb-false, ltb-false, ne_eqb, le-ltb}
+use Rattle.std.proofs.lemmas.Bool.{cond-false, eqb-false, ltb-false, ne_eqb, le-ltb}
 use Rattle.std.proofs.lemmas.List.Sums.{sum_by-append}
 use Rattle.zone_text.specs.Bytes.{line_feed}
-use Rattle.std.proofs.lemmas.Bool.Decides.{nat_tests}
 use Rattle.naptr_data.specs.Zones.{Labels}
 use Rattle.zone_text.specs.Tokens.{◌>>=◌ as ◌then◌}
 use Rattle.zone_text.specs.Meaning.{entry_of}

@@ -1,5 +1,5 @@
-use Rattle.std.proofs.Common.{◌≡◌, ◌∙◌, ℕ, zero, suc, ◌+◌, ◌-◌, ◌<◌, ◌≤◌, List, [], ◌∷◌, ◌++◌, length, get_or, take, drop, Bool, true, false, cond, Result, Ok, Err, refl, sym, ap, arith, append_assoc, length-append}
-use Rattle.std.proofs.lemmas.List.{append-nil, drop_all, drop_more, take_more, get_or-drop, length-take, length-drop}
+use Rattle.std.proofs.Common.{◌≡◌, ◌∙◌, ℕ, ◌+◌, ◌-◌, ◌<◌, ◌≤◌, List, [], ◌∷◌, ◌++◌, length, get_or, take, drop, true, false, Result, Ok, Err, sym, ap, arith, length-append}
+use Rattle.std.proofs.lemmas.List.{drop_more, take_more, get_or-drop, length-take, length-drop}
 use Rattle.std.proofs.lemmas.Bool.{cond-true, cond-false}
 use Rattle.zone_text.specs.Entries.{beginning, behind, ends_entry, ended_from}
 use Rattle.zone_text.specs.Reading.{Read, read_behind, on_line, run, step, rest_from, ◌>>=◌}

@@ -1,6 +1,6 @@
-use Rattle.std.proofs.Common.{◌≡◌, ◌∙◌, ℕ, zero, suc, ◌+◌, ◌*◌, ◌<◌, ◌≤◌, List, [], ◌∷◌, length, get_or, Bool, true, false, cond, Option, Some, None, refl, sym, ap, arith}
-use Rattle.std.specs.Prelude.{nat_le, ◌==◌, if◌then◌else◌, is_some}
-use Rattle.std.specs.Option.{IfSome, IfNone, ForSome, unwrap_or, option_and_then}
+use Rattle.std.proofs.Common.{◌≡◌, ◌∙◌, ℕ, zero, suc, ◌+◌, ◌*◌, ◌<◌, ◌≤◌, List, [], ◌∷◌, length, get_or, Option, Some, None, refl, sym, ap, arith}
+use Rattle.std.specs.Prelude.{◌==◌}
+use Rattle.std.specs.Option.{IfSome, ForSome, unwrap_or, option_and_then}
 use Rattle.std.specs.Char.{is_ascii_digit}
 use Rattle.std.proofs.lemmas.Bool.{cond_both}
 use Rattle.std.proofs.lemmas.Bool.Decides.{nat_tests}

@@ -1,18 +1,12 @@
 -- The fields of an entry (RFC 1035, section 5.1).
-use Rattle.std.specs.Prelude.{ℕ, ◌+◌, nat_le, List, [], ◌∷◌, length, take, slice_get, Bool, true, false, ◌&&◌, ◌||◌, not, ◌==◌, if◌then◌else◌, bytes_eq, codes, Option, Some, None, Result, Ok, Err}
-use Rattle.std.specs.Char.{is_ascii_digit}
-use Rattle.std.specs.Option.{ok_or}
+use Rattle.std.specs.Prelude.{ℕ, nat_le, List, [], ◌∷◌, length, slice_get, Bool, if◌then◌else◌, bytes_eq, Option, Some, None, Result, Ok, Err}
 use Rattle.enum_base.specs.Folding.{folded}
-use Rattle.enum_base.specs.Decimal.{number_up_to}
 use Rattle.naptr_data.specs.Zones.{Labels}
 use Rattle.dns_name.specs.Reading.{name_of}
-use Rattle.zone_text.specs.Bytes.{at_sign, dollar}
+use Rattle.zone_text.specs.Bytes.{at_sign}
 use Rattle.zone_text.specs.Token.{Token}
-use Rattle.zone_text.specs.Tokens.{◌>>=◌}
-use Rattle.zone_text.specs.Texts.{string_of}
-use Rattle.zone_text.specs.Times.{time_of}
 use Rattle.zone_text.specs.declared.fault.TextWhy.{TextWhy}
-use Rattle.zone_text.specs.declared.fault.TextWhy.TheVariants.{BadName, BadData, BadTtl}
+use Rattle.zone_text.specs.declared.fault.TextWhy.TheVariants.{BadName, BadData}
 
 -- a text is this word, in any case
 unfoldable pub is_word : List ℕ → List ℕ → Bool

@@ -1,5 +1,5 @@
 -- What one entry means (RFC 1035, section 5.1; RFC 2308, section 4, of `$TTL`).
-use Rattle.std.specs.Prelude.{ℕ, ◌+◌, List, [], ◌∷◌, drop, take, slice_get, Bool, true, false, ◌&&◌, not, ◌==◌, if◌then◌else◌, bytes_eq, codes, is_some, unwrap_or, option_and_then, ◌||◌, Option, Some, None, Result, Ok, Err}
+use Rattle.std.specs.Prelude.{ℕ, ◌+◌, List, [], ◌∷◌, drop, take, Bool, true, false, ◌&&◌, not, ◌==◌, if◌then◌else◌, bytes_eq, codes, is_some, unwrap_or, option_and_then, ◌||◌, Option, Some, None, Result, Ok, Err}
 use Rattle.std.specs.Char.{is_ascii_digit}
 use Rattle.std.specs.Option.{ok_or, option_or}
 use Rattle.naptr_data.specs.Zones.{Labels}
@@ -10,7 +10,7 @@ use Rattle.zone_text.specs.Bytes.{dollar, is_blank}
 use Rattle.zone_text.specs.Token.{Token}
 use Rattle.zone_text.specs.Tokens.{◌>>=◌, tokens_of}
 use Rattle.zone_text.specs.Times.{time_of}
-use Rattle.zone_text.specs.Fields.{is_word, name_in, name_at, bare_at, bare_in, ends_at}
+use Rattle.zone_text.specs.Fields.{is_word, name_at, bare_at, ends_at}
 use Rattle.zone_text.specs.Data.{kind_of_text, content_of}
 use Rattle.zone_text.specs.declared.kind.Kind.{Kind}
 use Rattle.zone_text.specs.declared.kind.Kind.TheVariants as kind

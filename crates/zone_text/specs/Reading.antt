@@ -1,11 +1,10 @@
 -- A plain reading of entries in turn. That it says and breaks exactly as `Zone` defines is proved.
-use Rattle.std.specs.Prelude.{◌≡◌, ◌≤◌, ℕ, ◌+◌, List, [], ◌∷◌, ◌++◌, length, drop, map, Bool, ◌&&◌, ◌==◌, IsTrue, if◌then◌else◌, Option, Some, None, Result, Ok, Err}
-use Rattle.std.specs.List.{list_all}
+use Rattle.std.specs.Prelude.{ℕ, ◌+◌, List, [], ◌∷◌, ◌++◌, length, Bool, ◌&&◌, ◌==◌, if◌then◌else◌, Result, Ok, Err}
 use Rattle.naptr_data.specs.Zones.{Labels}
 use Rattle.dns_wire.specs.Kinds.{internet, kind_of}
 use Rattle.dns_wire.specs.declared.record.Record as wire
-use Rattle.zone_text.specs.Entries.{beginning, behind, ends_entry, ended_of}
-use Rattle.zone_text.specs.Zone.{most_bytes, most_records, beginning_with, standing_behind, said_in, lines_in, entry_within}
+use Rattle.zone_text.specs.Entries.{beginning, behind, ends_entry}
+use Rattle.zone_text.specs.Zone.{beginning_with, standing_behind, said_in, lines_in, entry_within}
 use Rattle.zone_text.specs.declared.spot.Spot.{Spot}
 use Rattle.zone_text.specs.declared.meaning.Standing.{Standing}
 use Rattle.zone_text.specs.declared.meaning.Statement.{Statement}

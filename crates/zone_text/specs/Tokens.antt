@@ -1,7 +1,7 @@
 -- The tokens of an entry, and its lexical fault (RFC 1035, section 5.1).
-use Rattle.std.specs.Prelude.{◌≡◌, ◌≢◌, ℕ, zero, suc, ◌+◌, ◌-◌, List, [], ◌∷◌, ◌++◌, length, take, position, unwrap_or, Bool, true, false, not, ◌&&◌, ◌||◌, ◌==◌, if◌then◌else◌, Option, Some, None, Result, Ok, Err}
+use Rattle.std.specs.Prelude.{◌≡◌, ◌≢◌, ℕ, zero, suc, ◌+◌, ◌-◌, List, [], ◌∷◌, ◌++◌, length, take, position, unwrap_or, Bool, true, false, not, ◌&&◌, ◌||◌, ◌==◌, if◌then◌else◌, Some, None, Result, Ok, Err}
 use Rattle.std.specs.Option.{option_to_list}
-use Rattle.zone_text.specs.Bytes.{line_feed, quote, opening, closing, semicolon, backslash, is_line_end, is_blank, is_visible, is_quotable, is_escape}
+use Rattle.zone_text.specs.Bytes.{line_feed, quote, opening, closing, semicolon, backslash, is_blank, is_visible, is_quotable, is_escape}
 use Rattle.zone_text.specs.Token.{Token}
 use Rattle.zone_text.specs.declared.token.Front.{Front}
 use Rattle.zone_text.specs.declared.fault.TextWhy.{TextWhy}

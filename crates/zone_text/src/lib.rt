@@ -22,5 +22,8 @@ mod token;
 mod tokens;
 
 pub use fault::{TextFault, TextWhy};
-pub use laws::{breaks_once, broken_stays_broken, says_once, says_or_breaks, says_when_unbroken, too_long_breaks};
+pub use laws::{
+    breaks_once, broken_stays_broken, says_once, says_or_breaks, says_when_unbroken,
+    too_long_breaks,
+};
 pub use reader::ZoneReader;

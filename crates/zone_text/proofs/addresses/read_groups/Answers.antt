@@ -1,4 +1,4 @@
-use Rattle.std.proofs.Common.{rules, ◌++◌, ◌≡◌, ◌+◌, ◌*◌, ◌-◌, ◌∙◌, ap, sym, arith, length, length-append}
+use Rattle.std.proofs.Common.{◌++◌, ◌≡◌, ◌∙◌, ap, sym, arith, length, length-append}
 use Rattle.zone_text.proofs.AddressLemmas.{loop_goes_on, loop_breaks, loop_ends, loop_ends_broken, loop_is_full}
 use Rattle.zone_text.proofs.addresses.read_groups.Goals as goal
 

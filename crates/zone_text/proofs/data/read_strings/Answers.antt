@@ -1,4 +1,4 @@
-use Rattle.std.proofs.Common.{rules, ◌≡◌, ◌∙◌, sym}
+use Rattle.std.proofs.Common.{◌∙◌, sym}
 use Rattle.std.proofs.lemmas.Result.{err_from_is_err_and}
 use Rattle.zone_text.proofs.StringLemmas.{loop_starts, loop_goes_on, loop_breaks, loop_ends}
 use Rattle.zone_text.proofs.data.read_strings.Goals as goal

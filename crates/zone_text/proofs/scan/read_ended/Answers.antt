@@ -1,4 +1,4 @@
-use Rattle.std.proofs.Common.{rules, ◌≡◌, ◌∙◌, sym, ap, Ok}
+use Rattle.std.proofs.Common.{◌∙◌, sym, ap}
 use Rattle.zone_text.specs.Read.{seen}
 use Rattle.zone_text.specs.Reading.{step}
 use Rattle.zone_text.proofs.ScanLemmas.{scan_goes_on, scan_ends}

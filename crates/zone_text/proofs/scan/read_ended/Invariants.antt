@@ -1,4 +1,4 @@
-use Rattle.std.proofs.Common.{◌≡◌, ◌-◌, ◌≤◌, length, take, drop}
+use Rattle.std.proofs.Common.{◌-◌, take, drop}
 use Rattle.zone_text.specs.Read.{seen}
 use Rattle.zone_text.proofs.ScanLemmas.{Scanned}
 use Rattle.zone_text.proofs.scan.read_ended.Given as goal

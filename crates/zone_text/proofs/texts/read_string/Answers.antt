@@ -1,4 +1,4 @@
-use Rattle.std.proofs.Common.{rules, ◌≡◌, ◌∙◌, sym, arith, length-append}
+use Rattle.std.proofs.Common.{rules, ◌∙◌, sym}
 use Rattle.zone_text.proofs.TextLemmas.{loop_goes_on, loop_breaks, loop_is_full, loop_ends, room}
 use Rattle.zone_text.proofs.texts.read_string.Goals as goal
 

@@ -1,4 +1,4 @@
-use Rattle.std.proofs.Common.{rules, sym, arith}
+use Rattle.std.proofs.Common.{sym}
 use Rattle.zone_text.proofs.TimeLemmas.{loop_stops}
 use Rattle.zone_text.proofs.times.read_united.Goals as goal
 

@@ -1,7 +1,6 @@
-use Rattle.std.proofs.Common.{rules, ◌≡◌, ◌∙◌, ap, sym, arith, length, ◌<◌, false, true}
+use Rattle.std.proofs.Common.{rules, sym}
 use Rattle.std.proofs.lemmas.Result.{err_from_is_err_and}
-use Rattle.zone_text.specs.Tokens.{tokens_from, tokens_of}
-use Rattle.zone_text.proofs.TokenLemmas.{after_tokens, loop_starts, loop_goes_on, loop_breaks, loop_ends, loop_ends_open}
+use Rattle.zone_text.proofs.TokenLemmas.{loop_starts, loop_goes_on, loop_breaks, loop_ends, loop_ends_open}
 use Rattle.zone_text.proofs.tokens.read_tokens.Goals as goal
 
 pub loop-rest-init : goal.loop-rest-init
