@@ -1,0 +1,9 @@
+use Rattle.std.proofs.Common.{◌++◌, ◌∷◌, [], ap, ◌∙◌, take}
+use Rattle.zone_db.specs.Building.{givens_from}
+use Rattle.zone_db.proofs.SortLemmas.{givens_next}
+use Rattle.zone_db.proofs.sort.entries_of.Goals as goal
+
+pub loop-place-preserved : goal.loop-place-preserved
+loop-place-preserved c =
+    c.in_ok-push.ensures.items ∙ ap (λ l. l ++ c.in_ok-new.field-0 ∷ []) c.loop-place.invariant ∙ ap (λ g. givens_from 0 (take c.loop-place.place c.args.records.now) ++ g ∷ []) c.in_ok-new.ensures
+    ∙ givens_next c.args.records.now c.loop-place.place c.index-records-place.result c.loop-place-test.true c.index-records-place.is

@@ -1,0 +1,11 @@
+pub mod Building
+pub mod Built
+pub mod Faults
+pub mod Laws
+pub mod Finding
+pub mod LookUp
+pub mod Offering
+pub mod Plain
+pub mod Seeking
+pub mod Sets
+pub mod Zone

@@ -1,0 +1,41 @@
+//! Given records as entries in order.
+ghost use Rattle.std.specs.Prelude.{◌≡◌, IsPermutation, IfOk, OnOk};
+ghost use Rattle.zone_db.specs.Building.{IsOrdered, AreGivens, givens_from};
+
+use crate::entry::Entry;
+use crate::key::Key;
+use dns_wire::Record;
+use enum_base::MemoryFault;
+use std::alloc::Global;
+
+/// The records as entries, in order.
+pub(crate) fn sorted_entries(
+    alloc: Global,
+    records: &[Record],
+) -> Result<Vec<Entry<'_>>, MemoryFault>
+    ensures givens { IfOk result (λ entries. AreGivens records.now entries.items) }
+    ensures ordered { IfOk result (λ entries. IsOrdered entries.items) }
+{
+    let mut entries = entries_of(alloc, records)?;
+    sort(&mut entries)?;
+    Ok(entries)
+}
+
+/// The records as entries, as they stand.
+pub(crate) fn entries_of(alloc: Global, records: &[Record]) -> Result<Vec<Entry<'_>>, MemoryFault>
+    ensures { IfOk result (λ entries. entries.items ≡ givens_from 0 records.now) }
+{
+    let mut entries = Vec::new(alloc);
+    for (place, given) in records.iter().enumerate() {
+        entries.push(Entry::new(alloc, place, given)?)?;
+    }
+    Ok(entries)
+}
+
+fn sort(entries: &mut Vec<Entry<'_>>) -> Result<(), MemoryFault>
+    ensures same { IsPermutation entries.old.items entries.new.items }
+    ensures ordered { OnOk result (IsOrdered entries.new.items) }
+{
+    entries.sort_by(|one, other| one.cmp_by(other, Key::Whole))?;
+    Ok(())
+}
