@@ -14,14 +14,14 @@ use Rattle.dns_wire.specs.Kinds.{soa, cname, is_whole}
 use Rattle.dns_wire.specs.Rdata.{rdata_of}
 use Rattle.dns_wire.specs.declared.record.Record.{Record}
 use Rattle.zone_db.specs.Zone.{Zone, IsPlain, AreOneSet, AreRepeats, IsRising, IsCanonical, IsSet, IsWildcard, IsValid, weight}
-use Rattle.zone_db.specs.Built.{IsKept, IsBuilt}
+use Rattle.zone_db.specs.Built.{IsFirstRepeat, IsKept, IsBuilt}
 use Rattle.zone_db.specs.Faults.{HasSoa, HasOneStart, IsInside, Clashes, IsFirst, IsWildcardCut, IsLarge, AreUnmixed}
-use Rattle.zone_db.specs.Building.{Given, AreGivens, AreMerged, IsAtStart, IsKeptOf, IsMixedAt, IsFirstMixed}
+use Rattle.zone_db.specs.Building.{Given, AreGivens, IsEarliest, AreMerged, IsAtStart, IsKeptOf, IsMixedAt, IsFirstMixed}
 use Rattle.zone_db.specs.declared.key.Key.TheVariants.{Whole}
 use Rattle.zone_db.proofs.ListLemmas.{AllByRecursion-made}
 use Rattle.zone_db.proofs.OrderLemmas.{alike_equal, alike_sym, alike_trans}
 use Rattle.zone_db.proofs.MergeLemmas.{kept_repeats}
-use Rattle.zone_db.proofs.StartLemmas.{first_found, first_same}
+use Rattle.zone_db.proofs.StartLemmas.{first_found, first_in, first_same}
 use Rattle.zone_db.proofs.SizeLemmas.{set_same_name}
 use Rattle.zone_db.proofs.DecideLemmas.{Either, repeats_or_not, wildcard_folded}
 
@@ -119,7 +119,7 @@ mixed_within given entries place are (found, least) = subst (λ k. k < length gi
 
 -- what is kept of entries is kept of given records
 kept_of : (given : List Record) (entries : List Given) (e : Given) (kept : Record) → AreGivens given entries → IsKeptOf entries e kept → IsKept given e.given kept
-kept_of given entries e kept are (ttl, least, copy) = record {
+kept_of given entries e kept are (ttl, least, copy, first) = record {
   owner = copy.owner;
   kind = copy.kind;
   class = copy.class;
@@ -134,6 +134,23 @@ kept_of given entries e kept are (ttl, least, copy) = record {
         omega (arith, l, t, o);
   };
 }
+
+-- the first of the entries that are repeats is the first of the records that are
+first_repeat : (given : List Record) (entries : List Given) (e : Given) (kept : Record) → AreGivens given entries → Contains entries e → IsEarliest entries e → AreRepeats e.given kept → IsFirstRepeat given kept e.given
+first_repeat given entries e kept are c first same =
+    let p = are.each e c in (
+      e.place,
+      first_found (AreRepeats kept) given e.place e.given p.0 (sym p.1) (λ y (k, l, at) r.
+          let lt : k < e.place = omega (arith, l, length-take e.place given) in
+          let within = p.0 in
+          let at' : get_or given k y ≡ y = sym (get_or-take e.place given k y lt) ∙ at in
+          let low : e.place ≤ k = first (record { place = k; given = y }) (are.all k y (omega arith) at') (alike_trans Whole e.given kept y same r) in
+          absurd (omega (arith, low, lt))) (alike_sym Whole e.given kept same),
+    )
+
+kept_first : (given : List Record) (entries : List Given) (e : Given) (kept : Record) → AreGivens given entries → Contains entries e → IsKeptOf entries e kept → IsFirstRepeat given kept e.given
+kept_first given entries e kept are c (ttl, least, copy, first) =
+    first_repeat given entries e kept are c first (kept_repeats entries e kept (ttl, least, copy, first))
 
 at_start : (n : ℕ) → (n == soa) ≡ true → n ≡ soa
 at_start n e = grind (arith, nat_tests)
@@ -184,8 +201,8 @@ pub built_of : (given : List Record) (entries : List Given) (apex : Labels) (fir
 built_of given entries apex first others are has only is a b = record {
   apex = is;
   kept = λ kept c. elim (Contains-append_cases first others kept c) [
-    | inl front ↦ let f = a.from kept front in (f.0.given, given_in given entries are f.0 f.1, kept_of given entries f.0 kept are f.3)
-    | inr back ↦ let f = b.from kept back in (f.0.given, given_in given entries are f.0 f.1, kept_of given entries f.0 kept are f.3)
+    | inl front ↦ let f = a.from kept front in (f.0.given, kept_first given entries f.0 kept are f.1 f.3, kept_of given entries f.0 kept are f.3)
+    | inr back ↦ let f = b.from kept back in (f.0.given, kept_first given entries f.0 kept are f.1 f.3, kept_of given entries f.0 kept are f.3)
   ];
   all = λ one c.
       let e = entry_in given entries are one c in
@@ -201,6 +218,12 @@ built_of given entries apex first others are has only is a b = record {
       let p = parted given entries first others are has only a b in
       subst (λ l. IsCanonical (l ++ others)) (sym p.1) (p.2.kind, p.2.none, p.2.rising);
 }
+
+-- a record of a built zone is kept of a given one
+kept_from : (given : List Record) (zone : Zone) → IsBuilt given zone → (kept : Record) → Contains zone.records kept → (one : Record) × Contains given one × IsKept given one kept
+kept_from given zone built kept c =
+    let f = built.kept kept c in
+    (f.0, first_in (AreRepeats kept) given f.1.0 f.0 f.1.1, f.2)
 
 -- two records of one set of a built zone have one TTL
 one_ttl : (given : List Record) (one other kept kept' : Record) → IsKept given one kept → IsKept given other kept' → AreOneSet kept kept' → kept.ttl ≡ kept'.ttl
@@ -222,28 +245,28 @@ not_more n not = grind arith
 pub valid_of : (given : List Record) (zone : Zone) → ((one : Record) → Contains given one → IsPlain one) → AreUnmixed given → IsBuilt given zone → ((one : Record) → Contains zone.records one → ¬ IsLarge zone.records one) → ((one : Record) → Contains given one → ¬ IsWildcardCut one) → IsValid zone
 valid_of given zone plain free built small cuts = record {
   plain = λ kept c.
-      let f = built.kept kept c in
+      let f = kept_from given zone built kept c in
       let p = plain f.0 f.1 in
       record { class = f.2.class ∙ p.class; whole = subst (λ x. IsTrue (is_whole x)) (sym f.2.content) p.whole };
   order = built.order;
   start = λ kept c k.
-      let f = built.kept kept c in f.2.owner ∙ sym (built.apex f.0 f.1 (sym f.2.kind ∙ k));
-  folded = λ kept c. let f = built.kept kept c in ap folded_labels f.2.owner ∙ sym (same_folded f.0.owner) ∙ sym f.2.owner;
+      let f = kept_from given zone built kept c in f.2.owner ∙ sym (built.apex f.0 f.1 (sym f.2.kind ∙ k));
+  folded = λ kept c. let f = kept_from given zone built kept c in ap folded_labels f.2.owner ∙ sym (same_folded f.0.owner) ∙ sym f.2.owner;
   inside = λ kept c.
-      let f = built.kept kept c in
+      let f = kept_from given zone built kept c in
       below_same_name f.0.owner kept.owner zone.apex (same_folded f.0.owner ∙ ap folded_labels (sym f.2.owner)) (of_inside given zone.apex free.inside.some built.apex f.0 (free.inside.inside f.0 f.1));
   ttl = λ one other c d same.
-      let f = built.kept one c in
-      let g = built.kept other d in
+      let f = kept_from given zone built one c in
+      let g = kept_from given zone built other d in
       one_ttl given f.0 g.0 one other f.2 g.2 same;
   alias = λ one other c d k same.
-      let f = built.kept one c in
-      let g = built.kept other d in
+      let f = kept_from given zone built one c in
+      let g = kept_from given zone built other d in
       let owners : AreSame f.0.owner g.0.owner = same_folded f.0.owner ∙ ap folded_labels (sym f.2.owner) ∙ same ∙ ap folded_labels g.2.owner ∙ sym (same_folded g.0.owner) in
       let r = free.unmixed f.0 g.0 f.1 g.1 (sym f.2.kind ∙ k) owners in
       ((same, f.2.kind ∙ r.0.1 ∙ sym g.2.kind), ap rdata_of f.2.content ∙ r.1 ∙ ap rdata_of (sym g.2.content));
   cuts = λ kept c k wild.
-      let f = built.kept kept c in
+      let f = kept_from given zone built kept c in
       cuts f.0 f.1 (sym f.2.kind ∙ k, wildcard_folded f.0.owner (subst IsWildcard f.2.owner wild));
   small = λ owner kind set s. light zone.records owner kind set small s;
 }

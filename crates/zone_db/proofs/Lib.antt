@@ -10,6 +10,9 @@ pub mod LargeLemmas
 pub mod ListLemmas
 pub mod MergeLemmas
 pub mod OfferLemmas
+pub mod OneFaultLemmas
+pub mod OneFoundLemmas
+pub mod OneZoneLemmas
 pub mod OrderLemmas
 pub mod PlaceLemmas
 pub mod RunLemmas

@@ -1,5 +1,5 @@
 -- The records that are kept, run after run.
-use Rattle.std.proofs.Common.{◌≡◌, ◌⊎◌, inl, inr, ℕ, ◌+◌, ◌≤◌, Bool, List, [], ◌∷◌, ◌++◌, length, take, drop, sym, ap, subst, ◌∙◌, append_assoc, append-nil}
+use Rattle.std.proofs.Common.{◌≡◌, ◌⊎◌, inl, inr, ℕ, ◌+◌, ◌≤◌, Bool, List, [], ◌∷◌, ◌++◌, length, take, drop, get_or, sym, ap, subst, ◌∙◌, append_assoc, append-nil}
 use Rattle.std.specs.Prelude.{Contains}
 use Rattle.std.specs.declared.cmp.Ordering.TheVariants.{Less}
 use Rattle.std.proofs.Common.{◌==◌}
@@ -13,10 +13,11 @@ use Rattle.dns_wire.specs.Kinds.{soa}
 use Rattle.dns_wire.specs.Rdata.{rdata_of}
 use Rattle.dns_wire.specs.declared.record.Record.{Record}
 use Rattle.zone_db.specs.Zone.{AreOneSet, AreRepeats, IsRising, order_of}
-use Rattle.zone_db.specs.Building.{Given, key_order, AreAlike, IsRun, IsLeast, IsCopy, AreMerged, IsAtStart, IsSetTtl, IsKeptOf, IsMergedSet}
+use Rattle.zone_db.specs.Building.{Given, key_order, AreAlike, IsRun, IsLeast, IsCopy, IsEarliest, IsFirstCopy, IsStable, AreMerged, IsAtStart, IsSetTtl, IsKeptOf, IsMergedSet}
 use Rattle.zone_db.specs.declared.key.Key.{Key}
 use Rattle.zone_db.specs.declared.key.Key.TheVariants.{Set, Whole}
 use Rattle.zone_db.proofs.ListLemmas.{take_in, drop_in, part_of, only_one, AllByRecursion-made}
+use Rattle.zone_db.proofs.RunLemmas.{stable_take, stable_drop, stable_head}
 use Rattle.zone_db.proofs.OrderLemmas.{order_of-total, key_later, alike_equal, alike_sym, alike_trans, equal_less, less_equal, later_apart}
 
 -- while records are kept of all, with so many still to come
@@ -92,7 +93,10 @@ copy_repeats ttl e one copy =
     ((same_folded e.given.owner ∙ ap folded_labels (sym copy.owner), sym copy.kind), ap rdata_of (sym copy.content))
 
 pub kept_repeats : (all : List Given) (e : Given) (one : Record) → IsKeptOf all e one → AreRepeats e.given one
-kept_repeats all e one (ttl, least, copy) = copy_repeats ttl e one copy
+kept_repeats all e one (ttl, least, copy, first) = copy_repeats ttl e one copy
+
+pub first_copy_repeats : (all : List Given) (ttl : ℕ) (e : Given) (one : Record) → IsFirstCopy all ttl e one → AreRepeats e.given one
+first_copy_repeats all ttl e one (first, copy) = copy_repeats ttl e one copy
 
 -- what was added, while records are kept
 abbrev pub IsMergingFrom : Key → (Given → Type 0) → (Given → Record → Type 0) → List Given → ℕ → List Record → List Record → Type 0
@@ -113,9 +117,9 @@ from_all key P R all at old now end (added, is, m) =
     (added, is, merging_all key P R all (drop at all) added m (drop_all at all end))
 
 -- one of alike entries is kept for all of them
-pub one_kept : (ttl : ℕ) (part : List Given) (head : Given) (kept : Record) → Contains part head → ((one other : Given) → Contains part one → Contains part other → AreRepeats one.given other.given) → IsCopy ttl head kept → AreMerged (λ e. Unit {0}) (IsCopy ttl) part (kept ∷ [])
-one_kept ttl part head kept among here copy = record {
-  from = λ one c. (head, among, tt, subst (IsCopy ttl head) (sym (only_one kept one c)) copy);
+pub one_kept : (all : List Given) (ttl : ℕ) (part : List Given) (head : Given) (kept : Record) → Contains part head → ((one other : Given) → Contains part one → Contains part other → AreRepeats one.given other.given) → IsEarliest all head → IsCopy ttl head kept → AreMerged (λ e. Unit {0}) (IsFirstCopy all ttl) part (kept ∷ [])
+one_kept all ttl part head kept among here first copy = record {
+  from = λ one c. (head, among, tt, (first, subst (IsCopy ttl head) (sym (only_one kept one c)) copy));
   each = λ e c p.
       (kept, Contains-head kept [], alike_trans Whole e.given head.given kept (here e head c among) (copy_repeats ttl head kept copy));
   rising = (tt, tt);
@@ -142,6 +146,33 @@ set_ttl all part at n P added ttl e m run cut least c =
       ];
     }
 
+-- the first entry of a run precedes its repeats among all
+pub head_earliest : (all part : List Given) (at n : ℕ) (P : Given → Type 0) (R : Given → Record → Type 0) (added : List Record) (head : Given) → IsMerging Whole P R all (drop at all) added → IsStable all → IsRun Whole (drop at all) n → part ≡ take n (drop at all) → Contains part head → head ≡ get_or part 0 head → IsEarliest all head
+head_earliest all part at n P R added head m stable run cut among is d k same =
+    let front : Contains (take n (drop at all)) head = subst (λ l. Contains l head) cut among in
+    elim (m.apart d k) [
+      | inl there ↦ elim (part_of n (drop at all) d there) [
+        | inl here ↦
+            stable_head part head d (subst IsStable (sym cut) (stable_take n (drop at all) (stable_drop at all stable))) is (subst (λ l. Contains l d) (sym cut) here) same
+        | inr back ↦ absurd (later_apart Whole head.given d.given (run.later head d front back) same)
+      ]
+      | inr gone ↦
+          absurd (later_apart Whole d.given head.given (gone head (take_in n (drop at all) head front)) (alike_sym Whole head.given d.given same))
+    ]
+
+-- what precedes its repeats in a whole set precedes them among all
+set_earliest : (all part : List Given) (at n : ℕ) (P : Given → Type 0) (R : Given → Record → Type 0) (added : List Record) (e : Given) → IsMerging Set P R all (drop at all) added → IsRun Set (drop at all) n → part ≡ take n (drop at all) → Contains part e → IsEarliest part e → IsEarliest all e
+set_earliest all part at n P R added e m run cut c first d k same =
+    let front : Contains (take n (drop at all)) e = subst (λ l. Contains l e) cut c in
+    elim (m.apart d k) [
+      | inl there ↦ elim (part_of n (drop at all) d there) [
+        | inl here ↦ first d (subst (λ l. Contains l d) (sym cut) here) same
+        | inr back ↦ absurd (later_apart Set e.given d.given (run.later e d front back) same.0)
+      ]
+      | inr gone ↦
+          absurd (later_apart Set d.given e.given (gone e (take_in n (drop at all) e front)) (alike_sym Set e.given d.given same.0))
+    ]
+
 -- all of a set is at the start, or none of it
 same_start : (start : Bool) (part : List Given) (head e : Given) → ((one other : Given) → Contains part one → Contains part other → AreOneSet one.given other.given) → Contains part head → Contains part e → IsAtStart start head → IsAtStart start e
 same_start start part head e here c d is = ap (λ k. k == soa) (sym (here head e c d).1) ∙ is
@@ -157,7 +188,7 @@ set_added start all part at n head first old new m run cut among is (added, ttl,
     subst (IsMergingFrom Set (IsAtStart start) (IsKeptOf all) all (at + n) first) (sym added_is) (from_more Set (IsAtStart start) (IsKeptOf all) (kept_repeats all) all part at n first old added m run cut (record {
       from = λ one c.
           let f = made.from one c in
-          (f.0, f.1, same_start start part head f.0 (run_here Set all part at n run cut) among f.1 is, (ttl, set_ttl all part at n (IsAtStart start) m.0 ttl f.0 m.2 run cut least f.1, f.3));
+          (f.0, f.1, same_start start part head f.0 (run_here Set all part at n run cut) among f.1 is, (ttl, set_ttl all part at n (IsAtStart start) m.0 ttl f.0 m.2 run cut least f.1, f.3.1, set_earliest all part at n (IsAtStart start) (IsKeptOf all) m.0 f.0 m.2 run cut f.1 f.3.0));
       each = λ e c p. made.each e c tt;
       rising = made.rising;
     }))

@@ -11,7 +11,7 @@ use Rattle.dns_name.proofs.NameLemmas.{labels_of-wire_of}
 use Rattle.dns_wire.specs.Rdata.{rdata_of}
 use Rattle.dns_wire.specs.declared.record.Record.{Record}
 use Rattle.zone_db.specs.Zone.{owner_order, order_of}
-use Rattle.zone_db.specs.Building.{key_order, AreAlike}
+use Rattle.zone_db.specs.Building.{Given, key_order, entry_order, AreAlike}
 use Rattle.zone_db.specs.declared.key.Key.{Key}
 use Rattle.zone_db.specs.declared.key.Key.TheVariants.{Owner, Set, Whole}
 
@@ -52,13 +52,16 @@ owner_order-total = on_total (λ (one : Record). wire_of (folded_labels one.owne
 pub order_of-total : IsTotalOrder order_of
 order_of-total = then_total owner_order-total (then_total (on_total (λ (one : Record). one.kind) nat_cmp_total) (on_total (λ (one : Record). rdata_of one.content) nat_list_cmp_total))
 
+pub entry_order-total : IsTotalOrder entry_order
+entry_order-total = then_total (on_total (λ (one : Given). one.given) order_of-total) (on_total (λ (one : Given). one.place) nat_cmp_total)
+
 pub key_order-total : (key : Key) → IsTotalOrder (key_order key)
 key_order-total Owner = owner_order-total
 key_order-total Set = then_total owner_order-total (on_total (λ (one : Record). one.kind) nat_cmp_total)
 key_order-total Whole = order_of-total
 
 -- what is not after is not after by a part of the order
-then_front : (x y : Ordering) → ordering_then x y ≢ Greater → x ≢ Greater
+pub then_front : (x y : Ordering) → ordering_then x y ≢ Greater → x ≢ Greater
 then_front Less y not e = cc
 then_front Equal y not e = cc
 then_front Greater y not e = not refl

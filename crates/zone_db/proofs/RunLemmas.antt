@@ -7,8 +7,8 @@ use Rattle.std.specs.declared.cmp.Ordering.TheVariants.{Less, Equal, Greater}
 use Rattle.std.proofs.lemmas.List.{drop_all}
 use Rattle.std.proofs.lemmas.Cmp.{tied_itself}
 use Rattle.naptr_data.proofs.CutLemmas.{Contains-head, Contains-none, head_or_behind}
-use Rattle.zone_db.specs.Zone.{order_of}
-use Rattle.zone_db.specs.Building.{Given, key_order, AreAlike, IsOrdered, IsRun}
+use Rattle.zone_db.specs.Zone.{AreRepeats, order_of}
+use Rattle.zone_db.specs.Building.{Given, key_order, AreAlike, IsOrdered, IsStable, IsRun}
 use Rattle.zone_db.specs.declared.key.Key.{Key}
 use Rattle.zone_db.proofs.ListLemmas.{take_in, drop_in, turn_of, turned_all, AllByRecursion-contains}
 use Rattle.zone_db.proofs.OrderLemmas.{key_order-total, key_not_after, alike_equal, alike_sym, alike_trans, equal_less, less_not_after, then_before}
@@ -32,6 +32,28 @@ pub ordered_take : (n : ℕ) (all : List Given) → IsOrdered all → IsOrdered 
 ordered_take zero all o = tt
 ordered_take (suc n) [] o = tt
 ordered_take (suc n) (x ∷ all) o = (AllByRecursion-take _ n all o.0, ordered_take n all o.1)
+
+pub stable_drop : (n : ℕ) (all : List Given) → IsStable all → IsStable (drop n all)
+stable_drop zero all o = o
+stable_drop (suc n) [] o = o
+stable_drop (suc n) (x ∷ all) o = stable_drop n all o.1
+
+pub stable_take : (n : ℕ) (all : List Given) → IsStable all → IsStable (take n all)
+stable_take zero all o = tt
+stable_take (suc n) [] o = tt
+stable_take (suc n) (x ∷ all) o =
+    (AllByRecursion-take (λ (next : Given). AreRepeats x.given next.given → x.place ≤ next.place) n all o.0, stable_take n all o.1)
+
+-- the first of stable entries is before its repeats among them
+pub stable_head : (part : List Given) (head other : Given) → IsStable part → head ≡ get_or part 0 head → Contains part other → AreRepeats head.given other.given → head.place ≤ other.place
+stable_head [] head other o is c same = absurd (Contains-none other c)
+stable_head (x ∷ part) head other o is c same = elim (head_or_behind x part other c) [
+  | inl here ↦ let e = ap (λ (g : Given). g.place) (is ∙ sym here) in omega (arith, e)
+  | inr behind ↦
+      let e = ap (λ (g : Given). g.place) is in
+      let l = AllByRecursion-contains (λ (next : Given). AreRepeats x.given next.given → x.place ≤ next.place) part other o.0 behind (subst (λ (g : Given). AreRepeats g.given other.given) is same) in
+      omega (arith, e, l)
+]
 
 -- what stands in front of another does not come after it
 pub ordered_pair : (n : ℕ) (all : List Given) (one other : Given) → IsOrdered all → Contains (take n all) one → Contains (drop n all) other → order_of one.given other.given ≢ Greater

@@ -2,37 +2,68 @@
 use Rattle.std.proofs.Common.{◌≡◌, ◌≢◌, inl, inr, ℕ, zero, suc, ◌+◌, ◌<◌, ◌≤◌, List, [], ◌∷◌, ◌++◌, length, take, get_or, refl, sym, ap, subst, ◌∙◌, arith, false, is_lt, length-take}
 use Rattle.std.specs.Prelude.{Contains}
 use Rattle.std.specs.List.Sorted.{IsPermutation, IsSortedBy}
-use Rattle.std.specs.declared.cmp.Ordering.TheVariants.{Less, Greater}
-use Rattle.std.specs.Ordering.{ordering_reverse}
+use Rattle.std.specs.declared.cmp.Ordering.{Ordering}
+use Rattle.std.specs.declared.cmp.Ordering.TheVariants.{Less, Equal, Greater}
+use Rattle.std.specs.Ordering.{ordering_then, ordering_reverse, nat_cmp}
+use Rattle.std.proofs.lemmas.Cmp.{ranked}
 use Rattle.std.proofs.lemmas.List.Sorted.{ranks_by, sorted_far, Contains-permutation, IsPermutation-sym}
 use Rattle.std.proofs.lemmas.List.{take_more}
 use Rattle.naptr_data.proofs.CutLemmas.{Contains-head, Contains-behind, Contains-none, head_or_behind}
 use Rattle.dns_wire.specs.declared.record.Record.{Record}
-use Rattle.zone_db.specs.Zone.{order_of}
-use Rattle.zone_db.specs.Building.{Given, IsOrdered, AreGivens, givens_from}
+use Rattle.zone_db.specs.Zone.{AreRepeats, order_of}
+use Rattle.zone_db.specs.Building.{Given, IsOrdered, IsStable, entry_order, AreGivens, givens_from}
+use Rattle.zone_db.specs.declared.key.Key.TheVariants.{Whole}
 use Rattle.zone_db.proofs.ListLemmas.{AllByRecursion-made}
-use Rattle.zone_db.proofs.OrderLemmas.{order_of-total}
+use Rattle.zone_db.proofs.OrderLemmas.{entry_order-total, then_front, alike_equal}
 
--- one of two places comes first, and its element does not come after the other's
+-- of two places the entry at the first does not come after that at the second
 abbrev IsFar : List Given → Type 0
-IsFar xs = (i j : ℕ) (d : Given) → i ≤ j → j < length xs → order_of (get_or xs i d).given (get_or xs j d).given ≢ Greater
+IsFar xs = (i j : ℕ) (d : Given) → i ≤ j → j < length xs → entry_order (get_or xs i d) (get_or xs j d) ≢ Greater
+
+not_less_back : (one other : Given) → is_lt (entry_order other one) ≡ false → entry_order one other ≢ Greater
+not_less_back one other not e =
+    let back : entry_order other one ≡ Less = entry_order-total.antisymm other one ∙ ap ordering_reverse e in
+    cc (sym not ∙ ap is_lt back)
+
+sorted_is_far : (xs : List Given) → IsSortedBy (λ (a b : Given). is_lt (entry_order a b)) xs → IsFar xs
+sorted_is_far xs sorted i j d h k =
+    not_less_back (get_or xs i d) (get_or xs j d) (sorted_far (λ (a b : Given). is_lt (entry_order a b)) (ranks_by entry_order-total (λ (g : Given). g)) xs sorted i j d h k)
+
+-- what comes behind the head of sorted entries
+behind_head : (x : Given) (xs : List Given) → IsFar (x ∷ xs) → (y : Given) → Contains xs y → entry_order x y ≢ Greater
+behind_head x xs far y (k, l, e) = subst (λ (g : Given). entry_order x g ≢ Greater) e (far 0 (suc k) y (omega arith) (omega arith))
 
 ordered_far : (xs : List Given) → IsFar xs → IsOrdered xs
 ordered_far [] far = tt
 ordered_far (x ∷ xs) far = (
-  AllByRecursion-made (λ (next : Given). order_of x.given next.given ≢ Greater) xs (λ y (k, l, e). subst (λ (g : Given). order_of x.given g.given ≢ Greater) e (far 0 (suc k) y (omega arith) (omega arith))),
+  AllByRecursion-made (λ (next : Given). order_of x.given next.given ≢ Greater) xs (λ y c. then_front (order_of x.given y.given) (nat_cmp x.place y.place) (behind_head x xs far y c)),
   ordered_far xs (λ i j d h k. far (suc i) (suc j) d (omega arith) (omega arith)),
 )
 
-not_less_back : (one other : Record) → is_lt (order_of other one) ≡ false → order_of one other ≢ Greater
-not_less_back one other not e =
-    let back : order_of other one ≡ Less = order_of-total.antisymm other one ∙ ap ordering_reverse e in
-    cc (sym not ∙ ap is_lt back)
+not_greater : (n m : ℕ) (o : Ordering) → o ≡ nat_cmp n m → o ≢ Greater → n ≤ m
+not_greater n m Less is not = let l = ranked n m Less is in omega (arith, l)
+not_greater n m Equal is not = let l = ranked n m Equal is in omega (arith, l)
+not_greater n m Greater is not = absurd (not refl)
 
--- sorted entries are in order
-pub ordered_from_sorted : (xs : List Given) → IsSortedBy (λ (a b : Given). is_lt (order_of a.given b.given)) xs → IsOrdered xs
-ordered_from_sorted xs sorted =
-    ordered_far xs (λ i j d h k. not_less_back (get_or xs i d).given (get_or xs j d).given (sorted_far (λ (a b : Given). is_lt (order_of a.given b.given)) (ranks_by order_of-total (λ (g : Given). g.given)) xs sorted i j d h k))
+-- repeats that are in order are in that of their places
+placed : (one other : Given) → entry_order one other ≢ Greater → AreRepeats one.given other.given → one.place ≤ other.place
+placed one other not same =
+    let e : entry_order one other ≡ nat_cmp one.place other.place = ap (λ o. ordering_then o (nat_cmp one.place other.place)) (alike_equal Whole one.given other.given same) in
+    not_greater one.place other.place (nat_cmp one.place other.place) refl (λ g. not (e ∙ g))
+
+stable_far : (xs : List Given) → IsFar xs → IsStable xs
+stable_far [] far = tt
+stable_far (x ∷ xs) far = (
+  AllByRecursion-made (λ (next : Given). AreRepeats x.given next.given → x.place ≤ next.place) xs (λ y c. placed x y (behind_head x xs far y c)),
+  stable_far xs (λ i j d h k. far (suc i) (suc j) d (omega arith) (omega arith)),
+)
+
+-- sorted entries are in order, and repeats in that of their places
+pub ordered_from_sorted : (xs : List Given) → IsSortedBy (λ (a b : Given). is_lt (entry_order a b)) xs → IsOrdered xs
+ordered_from_sorted xs sorted = ordered_far xs (sorted_is_far xs sorted)
+
+pub stable_from_sorted : (xs : List Given) → IsSortedBy (λ (a b : Given). is_lt (entry_order a b)) xs → IsStable xs
+stable_from_sorted xs sorted = stable_far xs (sorted_is_far xs sorted)
 
 abbrev entry : ℕ → Record → Given
 entry place one = record { place = place; given = one }

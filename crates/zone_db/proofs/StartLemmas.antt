@@ -24,6 +24,9 @@ first_found P xs at x within is none here = record {
   first = AllByRecursion-made (λ (y : Record). ¬ P y) (take at xs) none;
 }
 
+pub first_in : (P : Record → Type 0) (xs : List Record) (place : ℕ) (one : Record) → IsFirst P xs place one → Contains xs one
+first_in P xs place one f = subst (λ l. Contains l one) (sym f.parts) (Contains-middle f.before one f.behind)
+
 -- none so far, and not the next one
 pub none_more : (P : Record → Type 0) (xs : List Record) (at : ℕ) (x : Record) → at < length xs → x ≡ get_or xs at x → ((y : Record) → Contains (take at xs) y → ¬ P y) → ¬ P x → (y : Record) → Contains (take (at + 1) xs) y → ¬ P y
 none_more P xs at x within is none not y c p = elim (turn_of xs at x y within is c) [

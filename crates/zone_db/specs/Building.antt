@@ -42,6 +42,15 @@ abbrev pub IsOrdered : List Given → Type 0
 IsOrdered [] = Unit {0}
 IsOrdered (one ∷ rest) = AllByRecursion (λ next. order_of one.given next.given ≢ Greater) rest × IsOrdered rest
 
+-- the order of entries: that of their records, and of repeats that of their places
+abbrev pub entry_order : Given → Given → Ordering
+entry_order one other = ordering_then (order_of one.given other.given) (nat_cmp one.place other.place)
+
+-- of repeats the one with the lesser place comes first
+abbrev pub IsStable : List Given → Type 0
+IsStable [] = Unit {0}
+IsStable (one ∷ rest) = AllByRecursion (λ next. AreRepeats one.given next.given → one.place ≤ next.place) rest × IsStable rest
+
 -- so many in front are alike, and all behind them come later
 pub record IsRun (key : Key) (all : List Given) (size : ℕ) : Type 0 where
   pub some : 0 < size
@@ -61,6 +70,14 @@ pub record IsCopy (least : ℕ) (one : Given) (kept : Record) : Type 0 where
   pub class : kept.class ≡ one.given.class
   pub content : kept.content ≡ one.given.content
   pub ttl : kept.ttl ≡ least
+
+-- no repeat of a given record has a lesser place
+abbrev pub IsEarliest : List Given → Given → Type 0
+IsEarliest all one = (other : Given) → Contains all other → AreRepeats one.given other.given → one.place ≤ other.place
+
+-- what is kept of a given record that no repeat precedes, with that TTL
+abbrev pub IsFirstCopy : List Given → ℕ → Given → Record → Type 0
+IsFirstCopy all least one kept = IsEarliest all one × IsCopy least one kept
 
 -- records that are kept of those of all of which P holds: each of one of them as R says, and of each of them a repeat
 pub record AreMerged (P : Given → Type 0) (R : Given → Record → Type 0) (all : List Given) (kept : List Record) : Type 0 where
@@ -93,14 +110,14 @@ pub record IsSetTtl (all : List Given) (one : Given) (ttl : ℕ) : Type 0 where
   pub some : (other : Given) × Contains all other × AreOneSet one.given other.given × (other.given.ttl ≡ ttl)
   pub least : (other : Given) → Contains all other → AreOneSet one.given other.given → ttl ≤ other.given.ttl
 
--- what is kept of a given record, with the least TTL of its set
+-- what is kept of a given record that no repeat precedes, with the least TTL of its set
 abbrev pub IsKeptOf : List Given → Given → Record → Type 0
-IsKeptOf all e kept = (ttl : ℕ) × IsSetTtl all e ttl × IsCopy ttl e kept
+IsKeptOf all e kept = (ttl : ℕ) × IsSetTtl all e ttl × IsCopy ttl e kept × IsEarliest all e
 
 -- after one set was added: each of its records once, with its least TTL
 abbrev pub IsMergedSet : List Given → List Record → List Record → Type 0
 IsMergedSet set old new =
-    (added : List Record) × (ttl : ℕ) × (new ≡ old ++ added) × IsLeast set ttl × AreMerged (λ e. Unit {0}) (IsCopy ttl) set added
+    (added : List Record) × (ttl : ℕ) × (new ≡ old ++ added) × IsLeast set ttl × AreMerged (λ e. Unit {0}) (IsFirstCopy set ttl) set added
 
 -- after the SOA, or all but the SOA, was added
 abbrev pub AreMergedSets : Bool → List Given → List Record → List Record → Type 0

@@ -1,12 +1,12 @@
 -- Why records make no valid zone (this project's own, but for RFC 1034, section 3.6.2, on aliases).
-use Rattle.std.specs.Prelude.{◌≡◌, ℕ, ◌<◌, List, ◌∷◌, ◌++◌, length, Contains, ⊤}
-use Rattle.std.specs.List.{AllByRecursion}
+use Rattle.std.specs.Prelude.{◌≡◌, ℕ, ◌<◌, List, Contains, ⊤}
 use Rattle.dns_name.specs.Name.{AreSame, IsBelow, folded_labels}
 use Rattle.naptr_data.specs.Zones.{Labels}
 use Rattle.dns_wire.specs.Kinds.{ns, cname, soa}
 use Rattle.dns_wire.specs.declared.record.Record.{Record}
 use Rattle.zone_db.specs.Zone.{Zone, IsSet, AreRepeats, IsWildcard, weight}
 use Rattle.zone_db.specs.Built.{IsBuilt}
+pub use Rattle.zone_db.specs.Built.{IsFirst}
 use Rattle.zone_db.specs.declared.fault.ZoneFault.{ZoneFault}
 use Rattle.zone_db.specs.declared.fault.ZoneFault.TheVariants as fault
 
@@ -28,15 +28,6 @@ abbrev pub Clashes : List Record → Labels → Type 0
 Clashes given owner =
     (one : Record) × (other : Record) × Contains given one × Contains given other × AreSame one.owner owner × AreSame other.owner owner
     × (one.kind ≡ cname) × ¬ AreRepeats one other
-
--- the first of the records of which something holds
-pub record IsFirst (P : Record → Type 0) (given : List Record) (place : ℕ) (one : Record) : Type 0 where
-  pub before : List Record
-  pub behind : List Record
-  pub parts : given ≡ before ++ one ∷ behind
-  pub at : length before ≡ place
-  pub here : P one
-  pub first : AllByRecursion (λ earlier. ¬ P earlier) before
 
 -- an NS record whose owner is a wildcard
 abbrev pub IsWildcardCut : Record → Type 0

@@ -1,14 +1,53 @@
 -- Laws of zones.
-use Rattle.std.specs.Prelude.{ℕ, List}
+use Rattle.std.specs.Prelude.{◌≡◌, ◌≢◌, ℕ, List}
 use Rattle.naptr_data.specs.Zones.{Labels, IsOffer}
 use Rattle.naptr_data.specs.declared.offer.Offer.{Offer}
 use Rattle.dns_wire.specs.Kinds.{naptr}
-use Rattle.zone_db.specs.Zone.{Zone}
-use Rattle.zone_db.specs.Sets.{AreZones}
+use Rattle.dns_wire.specs.declared.record.Record.{Record}
+use Rattle.zone_db.specs.Zone.{Zone, IsValid}
+use Rattle.zone_db.specs.Built.{IsBuilt}
+use Rattle.zone_db.specs.Faults.{IsZoneFault}
+use Rattle.zone_db.specs.Sets.{AreZones, HoldsApex, IsFull, IsAddFault}
 use Rattle.zone_db.specs.Plain.{told}
-use Rattle.zone_db.specs.LookUp.{IsFound, ReadsAs}
+use Rattle.zone_db.specs.LookUp.{IsFound, shown, ReadsAs}
 use Rattle.zone_db.specs.Offering.{IsReadable}
+use Rattle.zone_db.specs.declared.fault.ZoneFault.{ZoneFault}
+use Rattle.zone_db.specs.declared.fault.ZoneFault.TheVariants as fault
+use Rattle.zone_db.specs.declared.fault.AddFault.{AddFault}
+use Rattle.zone_db.specs.declared.fault.AddFault.TheVariants as add
 use Rattle.zone_db.specs.declared.found.Found.{Found}
+
+-- records make one zone
+abbrev pub RecordsMakeOneZone : Type 0
+RecordsMakeOneZone = (given : List Record) (one other : Zone) → IsBuilt given one → IsBuilt given other → one ≡ other
+
+-- want of memory aside, records have one fault
+abbrev pub RecordsHaveOneFault : Type 0
+RecordsHaveOneFault =
+    (given : List Record) (one other : ZoneFault) → IsZoneFault given one → IsZoneFault given other → one ≢ fault.Memory
+    → other ≢ fault.Memory → one ≡ other
+
+-- records that make a valid zone have none
+abbrev pub BuiltRecordsHaveNoFault : Type 0
+BuiltRecordsHaveNoFault =
+    (given : List Record) (zone : Zone) (f : ZoneFault) → IsBuilt given zone → IsValid zone → IsZoneFault given f → f ≡ fault.Memory
+
+-- a zone has one fault by which it does not go into a set
+abbrev pub ZonesHaveOneAddFault : Type 0
+ZonesHaveOneAddFault =
+    (zones : List Zone) (zone : Zone) (one other : AddFault) → IsAddFault zones zone one → IsAddFault zones zone other → one ≡ other
+
+-- a zone that fits has none but want of memory
+abbrev pub FittingZonesHaveNoAddFault : Type 0
+FittingZonesHaveNoAddFault =
+    (zones : List Zone) (zone : Zone) (f : AddFault) → ¬ HoldsApex zones zone.apex → ¬ IsFull zones zone → IsAddFault zones zone f
+    → f ≡ add.Memory
+
+-- zones show one answer for a name and a kind
+abbrev pub ZonesShowOneAnswer : Type 0
+ZonesShowOneAnswer =
+    (zones : List Zone) (name : Labels) (kind : ℕ) (one other : Found) → AreZones zones → IsFound zones name kind one
+    → IsFound zones name kind other → shown one ≡ shown other
 
 -- what is read as an offer from what is found for NAPTR records is what the zones offer as they are told
 abbrev pub FoundIsOffered : Type 0

@@ -67,6 +67,23 @@ pub record IsAnswered (zone : Zone) (source : Labels) (asked kind : ℕ) : Type 
 abbrev pub IsStart : Zone → Record → Type 0
 IsStart zone one = Contains zone.records one × (one.kind ≡ soa)
 
+-- what an answer shows: its case with the records of the set, or with the SOA
+pub data Shown : Type 0 where
+  outside : Shown
+  cut_of : List Record → Shown
+  alias_of : List Record → Shown
+  set_of : List Record → Shown
+  no_set : Record → Shown
+  no_name : Record → Shown
+
+abbrev pub shown : Found → Shown
+shown found.Outside = outside
+shown (found.Cut records) = cut_of records.now
+shown (found.Alias records) = alias_of records.now
+shown (found.Set records) = set_of records.now
+shown (found.NoSet start) = no_set start.now
+shown (found.NoName start) = no_name start.now
+
 -- what is found in zones for a name and a kind
 abbrev pub IsFound : List Zone → Labels → ℕ → Found → Type 0
 IsFound zones name asked found.Outside = (zone : Zone) → Contains zones zone → ¬ IsBelow name zone.apex

@@ -4,7 +4,7 @@ ghost use Rattle.dns_wire.specs.declared.record.Record.{Record};
 ghost use Rattle.zone_db.specs.Zone.{IsPlain, IsValid, IsCanonical};
 ghost use Rattle.zone_db.specs.Built.{IsBuilt};
 ghost use Rattle.zone_db.specs.Faults.{AreUnmixed, IsZoneFault};
-ghost use Rattle.zone_db.specs.Building.{AreGivens, IsOrdered, IsFirstLarge, IsApex, IsEntryApex, IsStartFault, IsKeptList};
+ghost use Rattle.zone_db.specs.Building.{AreGivens, IsOrdered, IsStable, IsFirstLarge, IsApex, IsEntryApex, IsStartFault, IsKeptList};
 
 use crate::clash::first_mixed;
 use crate::entry::Entry;
@@ -55,7 +55,8 @@ fn start_apex(entries: &[Entry<'_>]) -> Result<Name, ZoneFault>
 
 /// The records that are kept: the SOA, and then the others.
 pub(crate) fn kept_records(alloc: Global, sorted: &[Entry<'_>]) -> Result<Vec<Record>, MemoryFault>
-    requires { IsOrdered sorted.now }
+    requires ordered { IsOrdered sorted.now }
+    requires stable { IsStable sorted.now }
     ensures { IfOk result (λ kept. IsKeptList sorted.now kept.items) }
 {
     let mut kept = Vec::new(alloc);

@@ -33,7 +33,7 @@ impl<'a> Model for Entry<'a> {
 }
 
 impl<'a> Entry<'a> {
-    ghost use Rattle.zone_db.specs.Building.{key_order, AreAlike, IsCopy};
+    ghost use Rattle.zone_db.specs.Building.{key_order, entry_order, AreAlike, IsCopy};
     ghost use Rattle.dns_wire.specs.Rdata.{rdata_of};
     ghost use Rattle.std.specs.declared.cmp.Ordering.TheVariants.{Equal};
 
@@ -84,6 +84,14 @@ impl<'a> Entry<'a> {
             Key::Set => owners.then(kinds),
             Key::Whole => owners.then(kinds.then(self.cmp_rdata(other))),
         }
+    }
+
+    /// The whole order, and of repeats that of their places.
+    pub(crate) fn cmp_whole(&self, other: &Entry<'_>) -> Ordering
+        ensures { result ≡ entry_order self.now other.now }
+    {
+        let (place, other_place) = (self.place, other.place);
+        self.cmp_by(other, Key::Whole).then(place.cmp(&other_place))
     }
 
     fn cmp_rdata(&self, other: &Entry<'_>) -> Ordering

@@ -1,5 +1,27 @@
 //! Laws of zones.
-ghost use Rattle.zone_db.specs.Laws.{FoundIsOffered, FoundIsReadable};
+ghost use Rattle.zone_db.specs.Laws.{RecordsMakeOneZone, RecordsHaveOneFault, BuiltRecordsHaveNoFault, ZonesHaveOneAddFault, FittingZonesHaveNoAddFault, ZonesShowOneAnswer, FoundIsOffered, FoundIsReadable};
+
+/// Records make one zone.
+pub fn one_zone()
+    ensures { RecordsMakeOneZone }
+{}
+
+/// Want of memory aside, records have one fault, and none where they make a valid zone.
+pub fn one_zone_fault()
+    ensures one { RecordsHaveOneFault }
+    ensures none { BuiltRecordsHaveNoFault }
+{}
+
+/// A zone has one fault by which it does not go into a set, and none but want of memory where it fits.
+pub fn one_add_fault()
+    ensures one { ZonesHaveOneAddFault }
+    ensures none { FittingZonesHaveNoAddFault }
+{}
+
+/// Zones show one answer for a name and a kind.
+pub fn one_answer()
+    ensures { ZonesShowOneAnswer }
+{}
 
 /// What is read as an offer from what is found for NAPTR records is the offer of the zones as they are told.
 pub fn found_is_offered()

@@ -27,7 +27,9 @@ mod zone;
 
 pub use fault::{AddFault, ZoneFault};
 pub use found::Found;
-pub use laws::{found_is_offered, found_is_readable};
+pub use laws::{
+    found_is_offered, found_is_readable, one_add_fault, one_answer, one_zone, one_zone_fault,
+};
 pub use set::ZoneSet;
 pub use source::ZoneSource;
 pub use zone::Zone;

@@ -1,7 +1,7 @@
 //! The records that are kept of given ones.
 ghost use Rattle.std.specs.Prelude.{◌≡◌, ◌==◌, ◌<◌, length, OnOk};
 ghost use Rattle.dns_wire.specs.Kinds.{soa};
-ghost use Rattle.zone_db.specs.Building.{IsOrdered, IsLeast, IsMergedSet, AreMergedSets};
+ghost use Rattle.zone_db.specs.Building.{IsOrdered, IsStable, IsLeast, IsMergedSet, AreMergedSets};
 
 use crate::entry::Entry;
 use crate::key::Key;
@@ -17,7 +17,8 @@ pub(crate) fn push_sets(
     start: bool,
     out: &mut Vec<Record>,
 ) -> Result<(), MemoryFault>
-    requires { IsOrdered sorted.now }
+    requires ordered { IsOrdered sorted.now }
+    requires stable { IsStable sorted.now }
     ensures { OnOk result (AreMergedSets start sorted.now out.old.items out.new.items) }
 {
     let mut at = 0;
@@ -35,6 +36,7 @@ pub(crate) fn push_sets(
 fn push_set(alloc: Global, set: &[Entry<'_>], out: &mut Vec<Record>) -> Result<(), MemoryFault>
     requires some { 0 < length set.now }
     requires ordered { IsOrdered set.now }
+    requires stable { IsStable set.now }
     ensures { OnOk result (IsMergedSet set.now out.old.items out.new.items) }
 {
     let ttl = least_ttl(set);

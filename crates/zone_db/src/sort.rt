@@ -1,20 +1,20 @@
 //! Given records as entries in order.
 ghost use Rattle.std.specs.Prelude.{◌≡◌, IsPermutation, IfOk, OnOk};
-ghost use Rattle.zone_db.specs.Building.{IsOrdered, AreGivens, givens_from};
+ghost use Rattle.zone_db.specs.Building.{IsOrdered, IsStable, AreGivens, givens_from};
 
 use crate::entry::Entry;
-use crate::key::Key;
 use dns_wire::Record;
 use enum_base::MemoryFault;
 use std::alloc::Global;
 
-/// The records as entries, in order.
+/// The records as entries, in order, repeats in the order of their places.
 pub(crate) fn sorted_entries(
     alloc: Global,
     records: &[Record],
 ) -> Result<Vec<Entry<'_>>, MemoryFault>
     ensures givens { IfOk result (λ entries. AreGivens records.now entries.items) }
     ensures ordered { IfOk result (λ entries. IsOrdered entries.items) }
+    ensures stable { IfOk result (λ entries. IsStable entries.items) }
 {
     let mut entries = entries_of(alloc, records)?;
     sort(&mut entries)?;
@@ -35,7 +35,8 @@ pub(crate) fn entries_of(alloc: Global, records: &[Record]) -> Result<Vec<Entry<
 fn sort(entries: &mut Vec<Entry<'_>>) -> Result<(), MemoryFault>
     ensures same { IsPermutation entries.old.items entries.new.items }
     ensures ordered { OnOk result (IsOrdered entries.new.items) }
+    ensures stable { OnOk result (IsStable entries.new.items) }
 {
-    entries.sort_by(|one, other| one.cmp_by(other, Key::Whole))?;
+    entries.sort_by(|one, other| one.cmp_whole(other))?;
     Ok(())
 }

@@ -1,8 +1,8 @@
 use Rattle.std.proofs.Common.{sym, subst, length, ◌∙◌}
-use Rattle.zone_db.specs.Building.{IsOrdered, IsAtStart, IsKeptOf}
+use Rattle.zone_db.specs.Building.{IsOrdered, IsStable, IsAtStart, IsKeptOf}
 use Rattle.zone_db.specs.declared.key.Key.TheVariants.{Set}
 use Rattle.zone_db.proofs.ListLemmas.{read_in, same_bool, other_bool}
-use Rattle.zone_db.proofs.RunLemmas.{ordered_take, ordered_drop}
+use Rattle.zone_db.proofs.RunLemmas.{ordered_take, ordered_drop, stable_take, stable_drop}
 use Rattle.zone_db.proofs.MergeLemmas.{from_none, from_all, set_added, set_passed}
 use Rattle.zone_db.proofs.merge.push_sets.Goals as goal
 use Rattle.zone_db.proofs.merge.push_sets.Goals.{then-is_start-start+in_ok-push_set, else-is_start-start}
@@ -12,7 +12,11 @@ loop-at-init c = from_none Set (IsAtStart c.args.start) (IsKeptOf c.args.sorted.
 
 pub push_set-requires-clause-ordered : goal.push_set-requires-clause-ordered
 push_set-requires-clause-ordered c =
-    subst IsOrdered (sym c.run_at-set.ensures.part) (ordered_take _ _ (ordered_drop c.loop-at.at c.args.sorted.now c.requires))
+    subst IsOrdered (sym c.run_at-set.ensures.part) (ordered_take _ _ (ordered_drop c.loop-at.at c.args.sorted.now c.requires.ordered))
+
+pub push_set-requires-clause-stable : goal.push_set-requires-clause-stable
+push_set-requires-clause-stable c =
+    subst IsStable (sym c.run_at-set.ensures.part) (stable_take _ _ (stable_drop c.loop-at.at c.args.sorted.now c.requires.stable))
 
 pub loop-at-preserved : goal.loop-at-preserved
 loop-at-preserved c =

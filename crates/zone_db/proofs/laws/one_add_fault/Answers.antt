@@ -1,0 +1,8 @@
+use Rattle.zone_db.proofs.OneFaultLemmas.{one_add_fault, no_add_fault}
+use Rattle.zone_db.proofs.laws.one_add_fault.Goals as goal
+
+pub returns-clause-one : goal.returns-clause-one
+returns-clause-one c = one_add_fault
+
+pub returns-clause-none : goal.returns-clause-none
+returns-clause-none c = no_add_fault
