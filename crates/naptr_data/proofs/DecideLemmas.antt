@@ -12,10 +12,10 @@ use Rattle.naptr_data.proofs.BelowLemmas.{below_end, below_same_top, below_itsel
 abbrev pub Either : Type 0 → Type 0
 Either P = P ⊎ (P → ⊥)
 
-numbers : (n m : ℕ) → Either (n ≡ m)
+pub numbers : (n m : ℕ) → Either (n ≡ m)
 numbers n m = grind (arith, nat_tests)
 
-lists : {X : Type 0} → ((x y : X) → Either (x ≡ y)) → (xs ys : List X) → Either (xs ≡ ys)
+pub lists : {X : Type 0} → ((x y : X) → Either (x ≡ y)) → (xs ys : List X) → Either (xs ≡ ys)
 lists each [] [] = inl refl
 lists each [] (y ∷ ys) = inr (λ e. cc)
 lists each (x ∷ xs) [] = inr (λ e. cc)
@@ -29,7 +29,7 @@ lists {X} each (x ∷ xs) (y ∷ ys) = both (each x y) (lists each xs ys)
 pub same_or_not : (one two : Labels) → Either (AreSame one two)
 same_or_not one two = lists (lists numbers) (folded_labels one) (folded_labels two)
 
-below_parts : (label : List ℕ) (name top : Labels) → IsBelow (label ∷ name) top → AreSame (label ∷ name) top ⊎ IsBelow name top
+pub below_parts : (label : List ℕ) (name top : Labels) → IsBelow (label ∷ name) top → AreSame (label ∷ name) top ⊎ IsBelow name top
 below_parts label name top ([], back, parts, same) = inl (ap folded_labels parts ∙ same)
 below_parts label name top (l ∷ front, back, parts, same) = inr (front, back, cc, same)
 

@@ -23,7 +23,8 @@ use Rattle.zone_db.proofs.OrderLemmas.{alike_equal, alike_sym, alike_trans}
 use Rattle.zone_db.proofs.MergeLemmas.{kept_repeats}
 use Rattle.zone_db.proofs.StartLemmas.{first_found, first_in, first_same}
 use Rattle.zone_db.proofs.SizeLemmas.{set_same_name}
-use Rattle.zone_db.proofs.DecideLemmas.{Either, repeats_or_not, wildcard_folded}
+use Rattle.naptr_data.proofs.DecideLemmas.{Either}
+use Rattle.zone_db.proofs.DecideLemmas.{repeats_or_not, wildcard_folded}
 
 -- entries stand for given records
 pub given_in : (given : List Record) (entries : List Given) → AreGivens given entries → (e : Given) → Contains entries e → Contains given e.given

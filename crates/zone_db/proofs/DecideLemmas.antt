@@ -1,33 +1,13 @@
 -- Repeats, or not; wildcards and folding.
-use Rattle.std.proofs.Common.{◌≡◌, ◌⊎◌, inl, inr, ℕ, List, [], ◌∷◌, refl, ap, arith}
+use Rattle.std.proofs.Common.{◌≡◌, inl, inr, ℕ, List, [], ◌∷◌, ap, arith}
 use Rattle.std.proofs.lemmas.Bool.Decides.{nat_tests}
 use Rattle.enum_base.specs.Folding.{folded, folded_byte}
 use Rattle.dns_name.specs.Name.{AreSame, folded_labels}
 use Rattle.naptr_data.specs.Zones.{Labels, star}
+use Rattle.naptr_data.proofs.DecideLemmas.{Either, numbers, lists, same_or_not}
 use Rattle.dns_wire.specs.Rdata.{rdata_of}
 use Rattle.dns_wire.specs.declared.record.Record.{Record}
 use Rattle.zone_db.specs.Zone.{AreRepeats, IsWildcard}
-
--- a fact or its opposite
-abbrev pub Either : Type 0 → Type 0
-Either P = P ⊎ (P → ⊥)
-
-numbers : (n m : ℕ) → Either (n ≡ m)
-numbers n m = grind (arith, nat_tests)
-
-pub lists : {X : Type 0} → ((x y : X) → Either (x ≡ y)) → (xs ys : List X) → Either (xs ≡ ys)
-lists each [] [] = inl refl
-lists each [] (y ∷ ys) = inr (λ e. cc)
-lists each (x ∷ xs) [] = inr (λ e. cc)
-lists {X} each (x ∷ xs) (y ∷ ys) = both (each x y) (lists each xs ys)
-  where
-    both : Either (x ≡ y) → Either (xs ≡ ys) → Either (◌≡◌ {A = List X} (x ∷ xs) (y ∷ ys))
-    both (inl e) (inl f) = inl (cc)
-    both (inl e) (inr g) = inr (λ f. g (cc))
-    both (inr g) h = inr (λ f. g (cc))
-
-pub same_or_not : (one other : Labels) → Either (AreSame one other)
-same_or_not one other = lists (lists numbers) (folded_labels one) (folded_labels other)
 
 pub repeats_or_not : (one other : Record) → Either (AreRepeats one other)
 repeats_or_not one other = all (same_or_not one.owner other.owner) (numbers one.kind other.kind) (lists numbers (rdata_of one.content) (rdata_of other.content))

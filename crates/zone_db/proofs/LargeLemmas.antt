@@ -33,7 +33,7 @@ start_large a one other k none none' (set, s, more) =
     let is = one_set (a ∷ one) a.owner a.kind set (a ∷ []) s (own_set a one k none) in
     (a ∷ [], own_set a other k none', subst (λ l. 60_000 < weight l) is more)
 
-tail_set : (a : Record) (others : List Record) (owner : Labels) (kind : ℕ) (set : List Record) → ¬ IsIn owner kind a → IsSet others owner kind set → IsSet (a ∷ others) owner kind set
+pub tail_set : (a : Record) (others : List Record) (owner : Labels) (kind : ℕ) (set : List Record) → ¬ IsIn owner kind a → IsSet others owner kind set → IsSet (a ∷ others) owner kind set
 tail_set a others owner kind set not s = record {
   before = a ∷ s.before;
   behind = s.behind;

@@ -8,6 +8,7 @@ pub mod FoundLemmas
 pub mod KeepLemmas
 pub mod LargeLemmas
 pub mod ListLemmas
+pub mod MakeZoneLemmas
 pub mod MergeLemmas
 pub mod OfferLemmas
 pub mod OneFaultLemmas
@@ -19,5 +20,6 @@ pub mod RunLemmas
 pub mod SeekLemmas
 pub mod SetLemmas
 pub mod SizeLemmas
+pub mod SomeZoneLemmas
 pub mod SortLemmas
 pub mod StartLemmas

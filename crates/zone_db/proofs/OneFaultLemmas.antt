@@ -1,7 +1,9 @@
 -- Records have one fault at most, and none where they make a zone; a zone has one fault at most by which it does not go into a set.
-use Rattle.std.proofs.Common.{◌≡◌, ◌≢◌, ◌⊎◌, inl, inr, ℕ, List, refl, sym, ap, subst, ◌∙◌, arith}
+use Rattle.std.proofs.Common.{◌≡◌, ◌≢◌, ◌⊎◌, inl, inr, ℕ, ◌+◌, ◌<◌, ◌≤◌, List, [], ◌∷◌, length, refl, sym, ap, subst, ◌∙◌, arith}
 use Rattle.std.specs.Prelude.{Contains}
 use Rattle.naptr_data.specs.Zones.{Labels}
+use Rattle.naptr_data.proofs.CutLemmas.{Contains-head, Contains-behind, Contains-none, head_or_behind}
+use Rattle.naptr_data.proofs.DecideLemmas.{Either, same_or_not}
 use Rattle.naptr_data.proofs.BelowLemmas.{below_same_top, below_same_name}
 use Rattle.naptr_data.proofs.FoldLemmas.{same_folded}
 use Rattle.dns_name.specs.Name.{AreSame, folded_labels}
@@ -10,7 +12,7 @@ use Rattle.dns_wire.specs.declared.record.Record.{Record}
 use Rattle.zone_db.specs.Zone.{Zone, AreRepeats, IsValid}
 use Rattle.zone_db.specs.Built.{IsFirst, IsBuilt}
 use Rattle.zone_db.specs.Faults.{HasSoa, HasOneStart, IsInside, Clashes, IsWildcardCut, IsLarge, IsZoneFault}
-use Rattle.zone_db.specs.Sets.{HoldsApex, IsFull, IsAddFault}
+use Rattle.zone_db.specs.Sets.{HoldsApex, record_count, IsFull, IsAddFault}
 use Rattle.zone_db.specs.declared.fault.ZoneFault.{ZoneFault}
 use Rattle.zone_db.specs.declared.fault.ZoneFault.TheVariants as fault
 use Rattle.zone_db.specs.declared.fault.AddFault.{AddFault}
@@ -208,3 +210,34 @@ pub no_add_fault : (zones : List Zone) (zone : Zone) (f : AddFault) → ¬ Holds
 no_add_fault zones zone add.SameApex apart fits h = absurd (apart h)
 no_add_fault zones zone add.Full apart fits h = absurd (fits h.1)
 no_add_fault zones zone add.Memory apart fits h = refl
+
+-- a zone of that apex is among zones, or not
+holds_or_not : (zones : List Zone) (apex : Labels) → Either (HoldsApex zones apex)
+holds_or_not [] apex = inr (λ (z, c, same). Contains-none z c)
+holds_or_not (zone ∷ zones) apex = both (same_or_not zone.apex apex) (holds_or_not zones apex)
+  where
+    both : Either (AreSame zone.apex apex) → Either (HoldsApex zones apex) → Either (HoldsApex (zone ∷ zones) apex)
+    both (inl same) h = inl (zone, Contains-head zone zones, same)
+    both (inr not) (inl (z, c, same)) = inl (z, Contains-behind zone zones z c, same)
+    both (inr not) (inr none) = inr (λ (z, c, same). elim (head_or_behind zone zones z c) [
+      | inl here ↦ not (subst (λ (y : Zone). AreSame y.apex apex) here same)
+      | inr behind ↦ none (z, behind, same)
+    ])
+
+full_or_not : (n m : ℕ) → Either ((64 ≤ n) ⊎ (400_000 < m))
+full_or_not n m = elim (many n) [ inl h ↦ inl (inl h) | inr not ↦ elim (much m) [ inl h ↦ inl (inr h) | inr not' ↦ inr (λ h. elim h [ inl a ↦ not a | inr b ↦ not' b ]) ] ]
+  where
+    many : (k : ℕ) → Either (64 ≤ k)
+    many k = grind arith
+
+    much : (k : ℕ) → Either (400_000 < k)
+    much k = grind arith
+
+pub fits_or_fault : (zones : List Zone) (zone : Zone) → (¬ HoldsApex zones zone.apex × ¬ IsFull zones zone) ⊎ ((f : AddFault) × (f ≢ add.Memory) × IsAddFault zones zone f)
+fits_or_fault zones zone = elim (holds_or_not zones zone.apex) [
+  | inl h ↦ inr (add.SameApex, (λ e. cc), h)
+  | inr apart ↦ elim (full_or_not (length zones) (record_count zones + length zone.records)) [
+    | inl full ↦ inr (add.Full, (λ e. cc), (apart, full))
+    | inr fits ↦ inl (apart, fits)
+  ]
+]

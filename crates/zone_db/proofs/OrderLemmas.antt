@@ -116,7 +116,7 @@ alike_trans Owner one middle other a b = a ∙ b
 alike_trans Set one middle other a b = (a.0 ∙ b.0, a.1 ∙ b.1)
 alike_trans Whole one middle other a b = ((a.0.0 ∙ b.0.0, a.0.1 ∙ b.0.1), a.1 ∙ b.1)
 
-three : (o : Ordering) → (o ≡ Less) ⊎ ((o ≡ Equal) ⊎ (o ≡ Greater))
+pub three : (o : Ordering) → (o ≡ Less) ⊎ ((o ≡ Equal) ⊎ (o ≡ Greater))
 three Less = inl refl
 three Equal = inr (inl refl)
 three Greater = inr (inr refl)

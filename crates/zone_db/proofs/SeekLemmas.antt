@@ -6,6 +6,7 @@ use Rattle.std.proofs.lemmas.Bool.Decides.{nat_tests}
 use Rattle.std.proofs.lemmas.List.Elements.{Contains-append_left, Contains-append_right, Contains-append_cases}
 use Rattle.naptr_data.proofs.CutLemmas.{Contains-head, Contains-behind, Contains-none, Contains-middle, head_or_behind}
 use Rattle.naptr_data.proofs.BelowLemmas.{below_itself, below_same_top, below_same_name, below_trans, below_longer}
+use Rattle.naptr_data.proofs.DecideLemmas.{below_parts}
 use Rattle.naptr_data.specs.Zones.{Labels, Owned, Exists, Encloses, star}
 use Rattle.dns_name.specs.Name.{AreSame, IsBelow, IsName, IsLabel, folded_labels, label_wire, wire_of, parent_of, name_within}
 use Rattle.dns_name.proofs.NameLemmas.{wire_of-append, name_within-fits}
@@ -50,10 +51,6 @@ exists_cases zone name (inr (o, c, b)) =
     inr (f.0, f.1, subst (λ (x : Owned). IsBelow x.owner name) f.2 b)
 
 -- the name above one that does not exist is at or below the apex too
-below_parts : (label : List ℕ) (name top : Labels) → IsBelow (label ∷ name) top → AreSame (label ∷ name) top ⊎ IsBelow name top
-below_parts label name top ([], back, parts, same) = inl (ap folded_labels parts ∙ same)
-below_parts label name top (l ∷ front, back, parts, same) = inr (front, back, cc, same)
-
 pub above_inside : (zone : Zone) (name above : Labels) → Some above ≡ parent_of name → ¬ Exists (plain_of zone) name → IsBelow name zone.apex → IsBelow above zone.apex
 above_inside zone [] above is not b = absurd (cc)
 above_inside zone (label ∷ name) above is not b =

@@ -1,10 +1,10 @@
 -- Laws of zones.
-use Rattle.std.specs.Prelude.{◌≡◌, ◌≢◌, ℕ, List}
+use Rattle.std.specs.Prelude.{◌≡◌, ◌≢◌, ◌⊎◌, ℕ, List, Contains}
 use Rattle.naptr_data.specs.Zones.{Labels, IsOffer}
 use Rattle.naptr_data.specs.declared.offer.Offer.{Offer}
 use Rattle.dns_wire.specs.Kinds.{naptr}
 use Rattle.dns_wire.specs.declared.record.Record.{Record}
-use Rattle.zone_db.specs.Zone.{Zone, IsValid}
+use Rattle.zone_db.specs.Zone.{Zone, IsPlain, IsValid}
 use Rattle.zone_db.specs.Built.{IsBuilt}
 use Rattle.zone_db.specs.Faults.{IsZoneFault}
 use Rattle.zone_db.specs.Sets.{AreZones, HoldsApex, IsFull, IsAddFault}
@@ -21,6 +21,12 @@ use Rattle.zone_db.specs.declared.found.Found.{Found}
 abbrev pub RecordsMakeOneZone : Type 0
 RecordsMakeOneZone = (given : List Record) (one other : Zone) → IsBuilt given one → IsBuilt given other → one ≡ other
 
+-- records of the class and the kinds of zones make a valid zone or have a fault
+abbrev pub RecordsMakeAZoneOrHaveAFault : Type 0
+RecordsMakeAZoneOrHaveAFault =
+    (given : List Record) → ((one : Record) → Contains given one → IsPlain one)
+    → ((zone : Zone) × IsBuilt given zone × IsValid zone) ⊎ ((f : ZoneFault) × (f ≢ fault.Memory) × IsZoneFault given f)
+
 -- want of memory aside, records have one fault
 abbrev pub RecordsHaveOneFault : Type 0
 RecordsHaveOneFault =
@@ -36,6 +42,12 @@ BuiltRecordsHaveNoFault =
 abbrev pub ZonesHaveOneAddFault : Type 0
 ZonesHaveOneAddFault =
     (zones : List Zone) (zone : Zone) (one other : AddFault) → IsAddFault zones zone one → IsAddFault zones zone other → one ≡ other
+
+-- a zone fits into a set, or has one
+abbrev pub ZonesFitOrHaveAnAddFault : Type 0
+ZonesFitOrHaveAnAddFault =
+    (zones : List Zone) (zone : Zone)
+    → (¬ HoldsApex zones zone.apex × ¬ IsFull zones zone) ⊎ ((f : AddFault) × (f ≢ add.Memory) × IsAddFault zones zone f)
 
 -- a zone that fits has none but want of memory
 abbrev pub FittingZonesHaveNoAddFault : Type 0

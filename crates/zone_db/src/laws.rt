@@ -1,9 +1,14 @@
 //! Laws of zones.
-ghost use Rattle.zone_db.specs.Laws.{RecordsMakeOneZone, RecordsHaveOneFault, BuiltRecordsHaveNoFault, ZonesHaveOneAddFault, FittingZonesHaveNoAddFault, ZonesShowOneAnswer, FoundIsOffered, FoundIsReadable};
+ghost use Rattle.zone_db.specs.Laws.{RecordsMakeOneZone, RecordsMakeAZoneOrHaveAFault, RecordsHaveOneFault, BuiltRecordsHaveNoFault, ZonesHaveOneAddFault, ZonesFitOrHaveAnAddFault, FittingZonesHaveNoAddFault, ZonesShowOneAnswer, FoundIsOffered, FoundIsReadable};
 
 /// Records make one zone.
 pub fn one_zone()
     ensures { RecordsMakeOneZone }
+{}
+
+/// Records make a valid zone or have a fault, as long as they are of the class and the kinds of zones.
+pub fn zone_or_fault()
+    ensures { RecordsMakeAZoneOrHaveAFault }
 {}
 
 /// Want of memory aside, records have one fault, and none where they make a valid zone.
@@ -12,8 +17,9 @@ pub fn one_zone_fault()
     ensures none { BuiltRecordsHaveNoFault }
 {}
 
-/// A zone has one fault by which it does not go into a set, and none but want of memory where it fits.
+/// A zone fits into a set or has one fault by which it does not go into it, and none but want of memory where it fits.
 pub fn one_add_fault()
+    ensures some { ZonesFitOrHaveAnAddFault }
     ensures one { ZonesHaveOneAddFault }
     ensures none { FittingZonesHaveNoAddFault }
 {}

@@ -29,6 +29,7 @@ pub use fault::{AddFault, ZoneFault};
 pub use found::Found;
 pub use laws::{
     found_is_offered, found_is_readable, one_add_fault, one_answer, one_zone, one_zone_fault,
+    zone_or_fault,
 };
 pub use set::ZoneSet;
 pub use source::ZoneSource;
