@@ -1,8 +1,9 @@
 pub mod Building
 pub mod Built
+pub mod FaultWords
 pub mod Faults
-pub mod Laws
 pub mod Finding
+pub mod Laws
 pub mod LookUp
 pub mod Offering
 pub mod Plain

@@ -10,7 +10,8 @@ use dns_wire::{Content, Record};
 /// The rules and CNAMEs of zones.
 pub(crate) fn count_in_zones(zones: &[Zone]) -> u32
     requires { AreZones zones.now }
-    ensures { result ≡ rules_and_aliases (told zones.now) }
+    ensures count { result ≡ rules_and_aliases (told zones.now) }
+    ensures few { result ≤ 400_000 }
 {
     let mut count = 0;
     for zone in zones {

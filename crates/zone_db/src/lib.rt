@@ -23,6 +23,7 @@ mod size;
 mod sort;
 mod source;
 mod start;
+mod words;
 mod zone;
 
 pub use fault::{AddFault, ZoneFault};

@@ -5,7 +5,7 @@ use Rattle.std.proofs.lemmas.List.{append-nil, drop-append-le, length-take, leng
 use Rattle.std.proofs.Math.Seq.{drop-append_seam, take-append_seam}
 use Rattle.std.proofs.lemmas.Bool.{and_parts, eqb-true}
 use Rattle.naptr_data.specs.Zones.{Labels}
-use Rattle.dns_wire.specs.Kinds.{internet, kind_of}
+use Rattle.dns_wire.specs.Kinds.{internet, is_whole, kind_of}
 use Rattle.dns_wire.specs.declared.record.Record as wire
 use Rattle.zone_text.specs.Entries.{beginning, entries_from, entries_of, ended_from, ended_of, last_entry}
 use Rattle.zone_text.specs.Zone.{most_bytes, Break, BreaksSoFar, ZoneSays, ZoneBreaks, Are}
@@ -115,8 +115,16 @@ pub are-said : (records : List wire.Record) → list_all is_plain records ≡ tr
 are-said [] plain = tt
 are-said (one ∷ records) plain =
     let parts = and_parts (is_plain one) (list_all is_plain records) plain in
-    let both = and_parts (one.kind == kind_of one.content) (one.class == internet) parts.0 in
-    (record { owner = refl; kind = eqb-true one.kind (kind_of one.content) both.0; class = eqb-true one.class internet both.1; ttl = refl; content = refl }, are-said records parts.1)
+    let both = and_parts (one.kind == kind_of one.content && one.class == internet) (is_whole one.content) parts.0 in
+    let first = and_parts (one.kind == kind_of one.content) (one.class == internet) both.0 in
+    (record {
+      owner = refl;
+      kind = eqb-true one.kind (kind_of one.content) first.0;
+      class = eqb-true one.class internet first.1;
+      ttl = refl;
+      content = refl;
+      whole = both.1;
+    }, are-said records parts.1)
 
 -- a text that was read says its records
 pub text_said : (text : List ℕ) (origin : Labels) (progress : Progress) → run (unread origin) (entries_of text) ≡ Ok (seen progress) → list_all is_plain progress.records ≡ true → ZoneSays text origin progress.records

@@ -40,7 +40,7 @@ made owner ttl c of class fits = record { owner = owner; kind = of; class = clas
 record-exists : (said : Statement) → is_whole said.content ≡ true → (one : wire.Record) × Is one said
 record-exists said whole =
     let one : wire.Record = record { owner = said.owner; kind = kind_of said.content; class = internet; ttl = said.ttl; content = said.content; belongs = belongs-whole said.content whole } in
-    (one, record { owner = refl; kind = refl; class = refl; ttl = refl; content = refl })
+    (one, record { owner = refl; kind = refl; class = refl; ttl = refl; content = refl; whole = whole })
 
 records-more : (meaning : Meaning) (meanings : List Meaning) → is_whole_meaning meaning ≡ true → ((records : List wire.Record) × Are records (statements_of meanings)) → (records : List wire.Record) × Are records (statements_of (meaning ∷ meanings))
 records-more Nothing meanings whole more = more

@@ -1,7 +1,7 @@
 -- A plain reading of entries in turn. That it says and breaks exactly as `Zone` defines is proved.
 use Rattle.std.specs.Prelude.{ℕ, ◌+◌, List, [], ◌∷◌, ◌++◌, length, Bool, ◌&&◌, ◌==◌, if◌then◌else◌, Result, Ok, Err}
 use Rattle.naptr_data.specs.Zones.{Labels}
-use Rattle.dns_wire.specs.Kinds.{internet, kind_of}
+use Rattle.dns_wire.specs.Kinds.{internet, is_whole, kind_of}
 use Rattle.dns_wire.specs.declared.record.Record as wire
 use Rattle.zone_text.specs.Entries.{beginning, behind, ends_entry}
 use Rattle.zone_text.specs.Zone.{beginning_with, standing_behind, said_in, lines_in, entry_within}
@@ -65,6 +65,6 @@ rest_of text = rest_from [] beginning text
 abbrev pub said_of : wire.Record → Statement
 said_of one = record { owner = one.owner; ttl = one.ttl; content = one.content }
 
--- a record of class IN and the kind of its content
+-- a record of class IN and the kind of its content, which is of the ten types
 abbrev pub is_plain : wire.Record → Bool
-is_plain one = one.kind == kind_of one.content && one.class == internet
+is_plain one = one.kind == kind_of one.content && one.class == internet && is_whole one.content

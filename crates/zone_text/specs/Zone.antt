@@ -1,8 +1,8 @@
 -- What a zone text says, and where it breaks (RFC 1035, section 5.1; the limits are this project's own).
-use Rattle.std.specs.Prelude.{◌≡◌, ◌⊎◌, ⊤, ℕ, ◌+◌, ◌≤◌, nat_lt, List, [], ◌∷◌, ◌++◌, length, count_by, ◌==◌, if◌then◌else◌, Some, None, Result, Ok, Err}
+use Rattle.std.specs.Prelude.{◌≡◌, ◌⊎◌, ⊤, IsTrue, ℕ, ◌+◌, ◌≤◌, nat_lt, List, [], ◌∷◌, ◌++◌, length, count_by, ◌==◌, if◌then◌else◌, Some, None, Result, Ok, Err}
 use Rattle.std.specs.List.{flat_map}
 use Rattle.naptr_data.specs.Zones.{Labels}
-use Rattle.dns_wire.specs.Kinds.{internet, kind_of}
+use Rattle.dns_wire.specs.Kinds.{internet, is_whole, kind_of}
 use Rattle.dns_wire.specs.declared.record.Record as wire
 use Rattle.zone_text.specs.Bytes.{line_feed}
 use Rattle.zone_text.specs.Entries.{entries_of, ended_of}
@@ -64,13 +64,14 @@ bytes_of entries = flat_map (λ entry. entry) entries
 abbrev pub lines_in : List ℕ → ℕ
 lines_in bytes = count_by (λ byte. byte == line_feed) bytes
 
--- a record of class IN is what an entry states
+-- a record of class IN and of one of the ten types is what an entry states
 pub record Is (record_of : wire.Record) (said : Statement) : Type 0 where
   pub owner : record_of.owner ≡ said.owner
   pub kind : record_of.kind ≡ kind_of said.content
   pub class : record_of.class ≡ internet
   pub ttl : record_of.ttl ≡ said.ttl
   pub content : record_of.content ≡ said.content
+  pub whole : IsTrue (is_whole record_of.content)
 
 -- records are what entries state, one after another
 abbrev pub Are : List wire.Record → List Statement → Type 0

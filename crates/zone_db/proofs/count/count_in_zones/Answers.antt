@@ -6,6 +6,7 @@ pub loop-zone-preserved : goal.loop-zone-preserved
 loop-zone-preserved c = record {
   count = ap (λ m. c.loop-zone.count + m) c.rules_and_aliases.ensures.count ∙ count_zones_more c.args.zones.now c.loop-zone.zone-index c.zone-item.result c.loop-zone.count c.loop-zone-test.true c.zone-item.is c.loop-zone.invariant.count;
   few = (few_more c.args.zones.now c.loop-zone.zone-index c.zone-item.result c.loop-zone.count c.rules_and_aliases.result c.requires c.loop-zone-test.true c.zone-item.is c.loop-zone.invariant.few c.rules_and_aliases.ensures.few).0;
+  most = (few_more c.args.zones.now c.loop-zone.zone-index c.zone-item.result c.loop-zone.count c.rules_and_aliases.result c.requires c.loop-zone-test.true c.zone-item.is c.loop-zone.invariant.few c.rules_and_aliases.ensures.few).1;
 }
 
 pub overflow_add-count : goal.overflow_add-count

@@ -8,4 +8,5 @@ abbrev pub invariant-loop-zone : goal.invariant-loop-zone
 invariant-loop-zone l = record {
   count : l.count ≡ rules_and_aliases (told (take l.zone-index l.zones));
   few : l.count ≤ record_count (take l.zone-index l.zones);
+  most : l.count ≤ 400_000;
 }
