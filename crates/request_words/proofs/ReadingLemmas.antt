@@ -17,7 +17,7 @@ use Rattle.request_words.specs.declared.option.Choice.{Choice}
 use Rattle.request_words.specs.declared.option.OptionName.TheVariants.{Want, Apex, Zones}
 use Rattle.request_words.specs.declared.places.Places.{Places}
 use Rattle.request_words.specs.declared.request.AppName.{AppName}
-use Rattle.request_words.specs.declared.request.AppName.TheVariants.{Enum}
+use Rattle.request_words.specs.declared.request.AppName.TheVariants.{Enum, Snaptr, Unaptr}
 use Rattle.request_words.specs.declared.request.Origin.TheVariants.{Files}
 use Rattle.request_words.specs.declared.request.Request.{Request}
 use Rattle.request_words.specs.declared.request.Request.TheVariants.{Resolve}
@@ -144,16 +144,34 @@ pub resolve_in-other : (app : AppName) (options : List (List ℕ)) → are_chose
 unfolding resolve_in
 resolve_in-other app options e = rw e refl
 
+-- an option that is none of the choices does not stand
+unlisted : (option : List ℕ) (choices : List Choice) → is_option choices option ≡ false → (place : ℕ) (given : List Given) → AllByRecursion (λ one. IsOption choices one.option) given → places_of option place given ≡ []
+unlisted option choices none place [] known = refl
+unlisted option choices none place (one ∷ rest) known = by_test (unlisted option choices none (place + 2) rest known.1) (bytes_eq one.option option) refl
+  where
+    by_test : places_of option (place + 2) rest ≡ [] → (t : Bool) → bytes_eq one.option option ≡ t → (if t then place ∷ places_of option (place + 2) rest else places_of option (place + 2) rest) ≡ []
+    by_test later true e =
+        let listed : is_option choices one.option ≡ true = list_any-from_Any (λ choice. bytes_eq one.option (option_word choice.option)) choices known.0 in
+        let same : one.option ≡ option = (bytes_eq-Decides one.option option).0 e in
+        absurd (cc (sym none ∙ ap (is_option choices) (sym same) ∙ listed))
+    by_test later false e = later
+
 -- `--want` and `--apex` stand once at most, and `--zones` 64 times
 
 few_wants : (app : AppName) (given : List Given) → AllByRecursion (IsOften given) (resolve_choices app) → length (places_of (option_word Want) 4 given) ≤ 1
 few_wants Enum given often = subst (λ n. n ≤ 1) (same_count (option_word Want) 0 4 given) often.0.most
+few_wants Snaptr given often = subst (λ n. n ≤ 1) (same_count (option_word Want) 0 4 given) often.0.most
+few_wants Unaptr given often = subst (λ n. n ≤ 1) (same_count (option_word Want) 0 4 given) often.0.most
 
-few_apexes : (app : AppName) (given : List Given) → AllByRecursion (IsOften given) (resolve_choices app) → length (places_of (option_word Apex) 4 given) ≤ 1
-few_apexes Enum given often = subst (λ n. n ≤ 1) (same_count (option_word Apex) 0 4 given) often.1.0.most
+few_apexes : (app : AppName) (given : List Given) → AllByRecursion (λ one. IsOption (resolve_choices app) one.option) given → AllByRecursion (IsOften given) (resolve_choices app) → length (places_of (option_word Apex) 4 given) ≤ 1
+few_apexes Enum given known often = subst (λ n. n ≤ 1) (same_count (option_word Apex) 0 4 given) often.1.0.most
+few_apexes Snaptr given known often = subst (λ (ps : List ℕ). length ps ≤ 1) (sym (unlisted (option_word Apex) (resolve_choices Snaptr) refl 4 given known)) (omega arith)
+few_apexes Unaptr given known often = subst (λ (ps : List ℕ). length ps ≤ 1) (sym (unlisted (option_word Apex) (resolve_choices Unaptr) refl 4 given known)) (omega arith)
 
 few_zones : (app : AppName) (given : List Given) → AllByRecursion (IsOften given) (resolve_choices app) → length (places_of (option_word Zones) 4 given) ≤ 64
 few_zones Enum given often = subst (λ n. n ≤ 64) (same_count (option_word Zones) 0 4 given) often.1.1.0.most
+few_zones Snaptr given often = subst (λ n. n ≤ 64) (same_count (option_word Zones) 0 4 given) often.1.0.most
+few_zones Unaptr given often = subst (λ n. n ≤ 64) (same_count (option_word Zones) 0 4 given) often.1.0.most
 
 -- what is read of the options is meant
 meant_options : (app : AppName) (text : List ℕ) (given : List Given) → AllByRecursion (λ one. IsOption (resolve_choices app) one.option) given → AllByRecursion (IsOften given) (resolve_choices app) → MeansResolve app (codes "resolve" ∷ app_word app ∷ text ∷ words_of given) 2 (first_of (places_from (places_in (option_word Want) 4 (words_of given)))) (first_of (places_from (places_in (option_word Apex) 4 (words_of given)))) (places_from (places_in (option_word Zones) 4 (words_of given)))
@@ -166,7 +184,7 @@ meant_options app text given known often =
       spelled = record { arguments = text ∷ []; spelled = refl; count = refl; known = known; often = often };
       string_is = refl;
       want_is = first_is _ (few_wants app given often) ∙ ap (λ ps. option_to_list (first_of (places_from ps))) (sym want);
-      apex_is = first_is _ (few_apexes app given often) ∙ ap (λ ps. option_to_list (first_of (places_from ps))) (sym apex);
+      apex_is = first_is _ (few_apexes app given known often) ∙ ap (λ ps. option_to_list (first_of (places_from ps))) (sym apex);
       zones_are = subst (λ ps. ArePlaces (places_from ps) (places_of (option_word Zones) 4 given)) (sym zones) (places_are _ (few_zones app given often));
     }
 
@@ -181,14 +199,18 @@ resolve_meant app text options request is = by_test (are_chosen (resolve_choices
     by_test false e = absurd (cc (sym (resolve_in-other app options e) ∙ is))
 
 app_from : (word : List ℕ) (app : AppName) → app_in word ≡ Some app → word ≡ app_word app
-app_from word app is = by_test (bytes_eq word (app_word Enum)) refl is
+app_from word app is = by_tests (bytes_eq word (app_word Enum)) (bytes_eq word (app_word Snaptr)) (bytes_eq word (app_word Unaptr)) refl refl refl is
   where
-    by_test : (t : Bool) → bytes_eq word (app_word Enum) ≡ t → (if t then Some Enum else None) ≡ Some app → word ≡ app_word app
-    by_test true e f = let same : Enum ≡ app = cc f in (bytes_eq-Decides word (app_word Enum)).0 e ∙ ap app_word same
-    by_test false e f = absurd (cc f)
+    by_tests : (t u v : Bool) → bytes_eq word (app_word Enum) ≡ t → bytes_eq word (app_word Snaptr) ≡ u → bytes_eq word (app_word Unaptr) ≡ v → (if t then Some Enum else if u then Some Snaptr else if v then Some Unaptr else None) ≡ Some app → word ≡ app_word app
+    by_tests true u v e f g h = let same : Enum ≡ app = cc h in (bytes_eq-Decides word (app_word Enum)).0 e ∙ ap app_word same
+    by_tests false true v e f g h = let same : Snaptr ≡ app = cc h in (bytes_eq-Decides word (app_word Snaptr)).0 f ∙ ap app_word same
+    by_tests false false true e f g h = let same : Unaptr ≡ app = cc h in (bytes_eq-Decides word (app_word Unaptr)).0 g ∙ ap app_word same
+    by_tests false false false e f g h = absurd (cc h)
 
 app_to : (app : AppName) → app_in (app_word app) ≡ Some app
 app_to Enum = refl
+app_to Snaptr = refl
+app_to Unaptr = refl
 
 -- whole requests
 

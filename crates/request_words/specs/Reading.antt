@@ -7,7 +7,7 @@ use Rattle.request_words.specs.declared.option.Choice.{Choice}
 use Rattle.request_words.specs.declared.option.OptionName.TheVariants.{Want, Apex, Zones}
 use Rattle.request_words.specs.declared.places.Places.{Places}
 use Rattle.request_words.specs.declared.request.AppName.{AppName}
-use Rattle.request_words.specs.declared.request.AppName.TheVariants.{Enum}
+use Rattle.request_words.specs.declared.request.AppName.TheVariants.{Enum, Snaptr, Unaptr}
 use Rattle.request_words.specs.declared.request.Origin.TheVariants.{Files}
 use Rattle.request_words.specs.declared.request.Request.{Request}
 use Rattle.request_words.specs.declared.request.Request.TheVariants.{Resolve}
@@ -65,7 +65,11 @@ resolve_in app options =
 
 -- the application of a word
 abbrev pub app_in : List ℕ → Option AppName
-app_in word = if bytes_eq word (app_word Enum) then Some Enum else None
+app_in word =
+    if bytes_eq word (app_word Enum) then Some Enum
+    else if bytes_eq word (app_word Snaptr) then Some Snaptr
+    else if bytes_eq word (app_word Unaptr) then Some Unaptr
+    else None
 
 -- the request of words
 unfoldable pub request_in : List (List ℕ) → Option Request

@@ -5,7 +5,7 @@ use Rattle.request_words.specs.declared.option.Choice.{Choice}
 use Rattle.request_words.specs.declared.option.OptionName.{OptionName}
 use Rattle.request_words.specs.declared.option.OptionName.TheVariants.{Want, Apex, Zones}
 use Rattle.request_words.specs.declared.request.AppName.{AppName}
-use Rattle.request_words.specs.declared.request.AppName.TheVariants.{Enum}
+use Rattle.request_words.specs.declared.request.AppName.TheVariants.{Enum, Snaptr, Unaptr}
 
 -- a row of the table
 pub record Row : Type 0 where
@@ -22,12 +22,24 @@ option_word Zones = codes "--zones"
 -- the word of an application
 abbrev pub app_word : AppName → List ℕ
 app_word Enum = codes "enum"
+app_word Snaptr = codes "snaptr"
+app_word Unaptr = codes "unaptr"
+
+-- at most one wanted list, at most one apex, and 1 to 64 files
+abbrev pub want_choice : Choice
+want_choice = record { option = Want; least = 0; most = 1 }
+
+abbrev pub apex_choice : Choice
+apex_choice = record { option = Apex; least = 0; most = 1 }
+
+abbrev pub files_choice : Choice
+files_choice = record { option = Zones; least = 1; most = 64 }
 
 -- the options of `resolve`
 abbrev pub resolve_choices : AppName → List Choice
-resolve_choices Enum =
-    (record { option = Want; least = 0; most = 1 }) ∷ (record { option = Apex; least = 0; most = 1 })
-    ∷ (record { option = Zones; least = 1; most = 64 }) ∷ []
+resolve_choices Enum = want_choice ∷ apex_choice ∷ files_choice ∷ []
+resolve_choices Snaptr = want_choice ∷ files_choice ∷ []
+resolve_choices Unaptr = want_choice ∷ files_choice ∷ []
 
 -- `resolve APP STRING`
 abbrev pub resolve_row : AppName → Row

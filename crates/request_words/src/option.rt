@@ -36,27 +36,32 @@ pub struct Choice {
     pub most: usize,
 }
 
+// At most one wanted list, at most one apex, and 1 to 64 files.
+const WANT: Choice = Choice {
+    option: OptionName::Want,
+    least: 0,
+    most: 1,
+};
+
+const APEX: Choice = Choice {
+    option: OptionName::Apex,
+    least: 0,
+    most: 1,
+};
+
+const FILES: Choice = Choice {
+    option: OptionName::Zones,
+    least: 1,
+    most: 64,
+};
+
 /// The options of `resolve`.
 pub fn resolve_choices(app: AppName) -> &'static [Choice]
     ensures { result.now ≡ resolve_choices app }
 {
     match app {
-        AppName::Enum => &[
-            Choice {
-                option: OptionName::Want,
-                least: 0,
-                most: 1,
-            },
-            Choice {
-                option: OptionName::Apex,
-                least: 0,
-                most: 1,
-            },
-            Choice {
-                option: OptionName::Zones,
-                least: 1,
-                most: 64,
-            },
-        ],
+        AppName::Enum => &[WANT, APEX, FILES],
+        AppName::Snaptr => &[WANT, FILES],
+        AppName::Unaptr => &[WANT, FILES],
     }
 }

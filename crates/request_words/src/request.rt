@@ -6,6 +6,10 @@ use crate::places::Places;
 pub enum AppName {
     /// ENUM (RFC 6116).
     Enum,
+    /// S-NAPTR (RFC 3958).
+    Snaptr,
+    /// U-NAPTR (RFC 4848).
+    Unaptr,
 }
 
 /// Where rules come from.

@@ -44,6 +44,12 @@ fn read_app(word: &String) -> Result<AppName, Usage>
     if is_word(word, b"enum") {
         return Ok(AppName::Enum);
     }
+    if is_word(word, b"snaptr") {
+        return Ok(AppName::Snaptr);
+    }
+    if is_word(word, b"unaptr") {
+        return Ok(AppName::Unaptr);
+    }
     Err(Usage)
 }
 
