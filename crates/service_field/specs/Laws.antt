@@ -1,5 +1,5 @@
--- That a text spells one list of items at most, and that case is ignored (RFC 6116, section 3.4.3; RFC 3958, section 6.5),
--- as statements.
+-- That a text spells one list of items at most, and that case is ignored, as statements (RFC 6116, section 3.4.3;
+-- RFC 3958, section 6.5).
 use Rattle.std.specs.Prelude.{◌≡◌, ℕ, List, Option, option_map}
 use Rattle.enum_base.specs.Folding.{folded}
 use Rattle.service_field.specs.Tags.{Item, tags_of}
@@ -31,6 +31,7 @@ OneSnaptrList = IsSingle {X = List Item} SpellsSnaptrWanted
 abbrev pub FaultsIgnoreCase : Type 0
 FaultsIgnoreCase = (services : List ℕ) → services_fault (folded services) ≡ services_fault services
 
+-- .. those of S-NAPTR too
 abbrev pub SnaptrFaultsIgnoreCase : Type 0
 SnaptrFaultsIgnoreCase = (services : List ℕ) → snaptr_fault (folded services) ≡ snaptr_fault services
 

@@ -1,5 +1,5 @@
--- The services fields of ENUM rules (RFC 6116, section 3.4.3) and of S-NAPTR rules (RFC 3958, section 6.5), and lists of
--- wanted services (this project's own): which texts spell which items.
+-- The services fields of ENUM rules (RFC 6116, section 3.4.3) and of S-NAPTR rules (RFC 3958, section 6.5), and lists
+-- of wanted services (this project's own): which texts spell which items.
 use Rattle.std.specs.Prelude.{◌≡◌, ℕ, List, ◌∷◌, take, drop, map, codes, flat_map}
 use Rattle.std.specs.List.{join_with_byte}
 use Rattle.enum_base.specs.Folding.{folded}

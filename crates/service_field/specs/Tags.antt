@@ -1,4 +1,5 @@
--- Tags, and items made of them (RFC 6116, section 3.4.3; RFC 3958, section 6.5; the alphabet of S-NAPTR is this project's own).
+-- Tags, and items made of them (RFC 6116, section 3.4.3; RFC 3958, section 6.5; that one alphabet serves services and
+-- protocols is this project's own).
 use Rattle.std.specs.Prelude.{◌≡◌, ℕ, ◌<◌, ◌≤◌, Bool, true, false, ◌||◌, ◌==◌, nat_lt, if◌then◌else◌, List, [], ◌∷◌, length, map, drop}
 use Rattle.std.specs.Char.{is_ascii_alphabetic, is_ascii_alphanumeric}
 use Rattle.std.specs.List.{All, AllPass, after_first, before_first, join_with_byte, position_or_len, slice_split}
