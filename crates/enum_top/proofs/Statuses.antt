@@ -3,7 +3,7 @@ use Rattle.std.proofs.Common.{◌≡◌, inl, inr, Result, Ok, Err, refl, sym, a
 use Rattle.enum_top.specs.Endings.{status_of, cause_status, ended_as, IsCauses, IsPlain}
 use Rattle.enum_top.specs.Running.{ended}
 use Rattle.enum_top.specs.declared.cause.Cause.{Cause}
-use Rattle.enum_top.specs.declared.cause.Cause.TheVariants.{Number, Want, Apex, Key, Absent, Unbuilt}
+use Rattle.enum_top.specs.declared.cause.Cause.TheVariants.{Number, Domain, Want, Apex, Key, Absent, Unbuilt}
 use Rattle.enum_top.specs.declared.refusal.Refusal.{Refusal}
 use Rattle.enum_top.specs.declared.refusal.Refusal.TheVariants.{Usage, IllFormed, Outside, Memory}
 use Rattle.enum_top.specs.declared.status.Ending.{Ending}
@@ -12,6 +12,7 @@ use Rattle.enum_top.specs.declared.status.Ending.TheVariants.{Done, Nothing, Loo
 -- the status of a cause
 causes : (cause : Cause) → IsCauses (cause_status cause)
 causes (Number fault) = inl refl
+causes (Domain fault) = inl refl
 causes (Want fault) = inl refl
 causes (Apex fault) = inl refl
 causes Key = inl refl

@@ -1,5 +1,6 @@
--- What each application makes of the words of a request: its original string, the services that are wanted, and the domain
--- that its walk begins at (RFC 3402, section 3; ENUM: RFC 6116, sections 1.2 and 3.2).
+-- What each application makes of the words of a request: its original string, the services that are wanted, and the
+-- domain that its walk begins at (RFC 3402, section 3; ENUM: RFC 6116, sections 1.2 and 3.2; S-NAPTR: RFC 3958,
+-- section 6; U-NAPTR: RFC 4848, section 4).
 use Rattle.std.specs.Prelude.{◌≡◌, ◌⊎◌, ℕ, nat_le, List, [], ◌∷◌, length, if◌then◌else◌, Option, Some, None, option_map, Result, Ok, Err}
 use Rattle.dns_name.specs.Name.{wire_of}
 use Rattle.dns_name.specs.Reading.{name_of}
@@ -10,10 +11,14 @@ use Rattle.enum_app.specs.declared.number.NumberFault.{NumberFault}
 use Rattle.naptr_data.specs.Zones.{Labels}
 use Rattle.request_words.specs.Words.{text_at}
 use Rattle.request_words.specs.declared.request.AppName.{AppName}
-use Rattle.request_words.specs.declared.request.AppName.TheVariants.{Enum}
+use Rattle.request_words.specs.declared.request.AppName.TheVariants.{Enum, Snaptr, Unaptr}
 use Rattle.service_field.specs.Applications.{Meaning}
-use Rattle.service_field.specs.Faults.{wanted_fault}
+use Rattle.service_field.specs.Faults.{snaptr_wanted_fault, wanted_fault}
 use Rattle.service_field.specs.declared.fault.ServiceFault.{ServiceFault}
+use Rattle.snaptr_app.specs.App.{snaptr_meaning, unaptr_meaning}
+use Rattle.snaptr_app.specs.Domain.{domain_fault, key_of}
+use Rattle.snaptr_app.specs.declared.fault.DomainFault.{DomainFault}
+use Rattle.snaptr_app.specs.declared.fault.DomainFault.TheVariants.{BadName}
 use Rattle.enum_top.specs.Verdicts.{Then}
 use Rattle.enum_top.specs.declared.cause.Cause.{Cause}
 use Rattle.enum_top.specs.declared.cause.Cause.TheVariants as cause
@@ -21,17 +26,29 @@ use Rattle.enum_top.specs.declared.cause.Cause.TheVariants as cause
 -- what the application makes of flags and services
 abbrev pub meaning_of : AppName → Meaning
 meaning_of Enum = enum_meaning
+meaning_of Snaptr = snaptr_meaning
+meaning_of Unaptr = unaptr_meaning
 
--- the original string of a text, or its fault. ENUM: a plus sign and the digits of the number
+-- the original string of a domain, unless it has a fault
+abbrev pub domain_string : List ℕ → Option DomainFault → Result (List ℕ) Cause
+domain_string text None = Ok text
+domain_string text (Some fault) = Err (cause.Domain fault)
+
+-- the original string of a text, or its fault. ENUM: a plus sign and the digits of the number; S-NAPTR and U-NAPTR: the
+-- text of the domain as it stands
 abbrev pub Strings : AppName → List ℕ → Result (List ℕ) Cause → Type 0
 Strings Enum text result =
     (IsNumber text × (result ≡ Ok (plus ∷ digits_of text)))
     ⊎ ((fault : NumberFault) × HasNumberFault text fault × (result ≡ Err (cause.Number fault)))
+Strings Snaptr text result = result ≡ domain_string text (domain_fault text)
+Strings Unaptr text result = result ≡ domain_string text (domain_fault text)
 
 -- the first fault of a wanted list, where there is a list and it has one
 abbrev pub want_fault : AppName → Option (List ℕ) → Option ServiceFault
 want_fault app None = None
 want_fault Enum (Some text) = wanted_fault text
+want_fault Snaptr (Some text) = snaptr_wanted_fault text
+want_fault Unaptr (Some text) = snaptr_wanted_fault text
 
 -- a wanted list, unless it has a fault
 abbrev pub faultless : Option (List ℕ) → Option ServiceFault → Result (Option (List ℕ)) Cause
@@ -64,9 +81,16 @@ fitting labels = if nat_le (length (wire_of labels)) 255 then Ok labels else Err
 abbrev pub Numbered : List ℕ → Option (List ℕ) → Result Labels Cause → Type 0
 Numbered digits apex = Then (Apexes apex) (λ top result. result ≡ fitting (key_labels digits top))
 
--- the domain that the walk begins at. ENUM: that of the digits
+-- the name that a text stands for; one whose string has no fault stands for one
+abbrev pub domain_key : Result Labels NameFault → Result Labels Cause
+domain_key (Ok labels) = Ok labels
+domain_key (Err fault) = Err (cause.Domain (BadName fault))
+
+-- the domain that the walk begins at. ENUM: that of the digits; S-NAPTR and U-NAPTR: the name of the text
 abbrev pub Keys : AppName → List ℕ → Option (List ℕ) → Result Labels Cause → Type 0
-Keys Enum text apex = Numbered (digits_of text) apex
+Keys Enum text apex result = Numbered (digits_of text) apex result
+Keys Snaptr text apex result = result ≡ domain_key (key_of text)
+Keys Unaptr text apex result = result ≡ domain_key (key_of text)
 
 -- what is asked: the original string, the wanted list, and the domain
 pub record Asked : Type 0 where

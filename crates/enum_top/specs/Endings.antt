@@ -1,7 +1,7 @@
 -- The statuses of what a run comes to, and their numbers (this project's own).
 use Rattle.std.specs.Prelude.{◌≡◌, ◌⊎◌, ℕ}
 use Rattle.enum_top.specs.declared.cause.Cause.{Cause}
-use Rattle.enum_top.specs.declared.cause.Cause.TheVariants.{Number, Want, Apex, Key, Absent, Unbuilt}
+use Rattle.enum_top.specs.declared.cause.Cause.TheVariants.{Number, Domain, Want, Apex, Key, Absent, Unbuilt}
 use Rattle.enum_top.specs.declared.refusal.Refusal.{Refusal}
 use Rattle.enum_top.specs.declared.refusal.Refusal.TheVariants.{Usage, IllFormed, Outside, Memory}
 use Rattle.enum_top.specs.declared.status.Ending.{Ending}
@@ -18,6 +18,7 @@ status_of Loop = status.Loop
 -- the status of a cause
 abbrev pub cause_status : Cause → Status
 cause_status (Number fault) = status.IllFormed
+cause_status (Domain fault) = status.IllFormed
 cause_status (Want fault) = status.IllFormed
 cause_status (Apex fault) = status.IllFormed
 cause_status Key = status.IllFormed

@@ -4,8 +4,9 @@ use Rattle.dns_name.specs.FaultWords.{name_fault}
 use Rattle.enum_app.specs.FaultWords.{number_fault}
 use Rattle.request_words.specs.Words.{text_at}
 use Rattle.service_field.specs.FaultWords.{service_fault}
+use Rattle.snaptr_app.specs.FaultWords.{domain_fault_words}
 use Rattle.enum_top.specs.declared.cause.Cause.{Cause}
-use Rattle.enum_top.specs.declared.cause.Cause.TheVariants.{Number, Want, Apex, Key, Absent, Unbuilt}
+use Rattle.enum_top.specs.declared.cause.Cause.TheVariants.{Number, Domain, Want, Apex, Key, Absent, Unbuilt}
 use Rattle.enum_top.specs.declared.refusal.Refusal.{Refusal}
 use Rattle.enum_top.specs.declared.refusal.Refusal.TheVariants.{Usage, IllFormed, Outside, Memory}
 use Rattle.enum_top.specs.declared.status.Object.{Object}
@@ -14,6 +15,7 @@ use Rattle.enum_top.specs.declared.status.Object.TheVariants.{Shelf, Output}
 -- the line of what is ill-formed; a file is named by the word at its place
 abbrev pub cause_line : List (List ℕ) → Cause → List ℕ
 cause_line words (Number fault) = codes "enumd: ill-formed string " ++ number_fault fault ++ codes "\n"
+cause_line words (Domain fault) = codes "enumd: ill-formed string " ++ domain_fault_words fault ++ codes "\n"
 cause_line words (Want fault) = codes "enumd: ill-formed want " ++ service_fault fault ++ codes "\n"
 cause_line words (Apex fault) = codes "enumd: ill-formed apex " ++ name_fault fault ++ codes "\n"
 cause_line words Key = codes "enumd: ill-formed key NameTooLong\n"

@@ -2,6 +2,7 @@
 use Rattle.std.specs.Prelude.{◌≡◌, ℕ, List, ◌∷◌, take, Option, Result, Ok, Err}
 use Rattle.enum_app.specs.Number.{plus}
 use Rattle.service_field.specs.Wanted.{wanted_text}
+use Rattle.service_field.specs.declared.fault.ServiceFault.{ServiceFault}
 use Rattle.service_field.specs.declared.wanted.Wanted.{Wanted}
 use Rattle.naptr_data.specs.Zones.{Zone}
 use Rattle.enum_base.specs.Causes.{Blames}
@@ -17,6 +18,7 @@ use Rattle.enum_top.specs.Verdicts.{Told, Verdict}
 use Rattle.enum_top.specs.Verdicts.Verdict.{prints, refuses}
 use Rattle.enum_top.specs.declared.asked.Asked.{Asked}
 use Rattle.enum_top.specs.declared.cause.Cause.{Cause}
+use Rattle.enum_top.specs.declared.cause.Cause.TheVariants.{Want}
 use Rattle.enum_top.specs.declared.refusal.Refusal.{Refusal}
 use Rattle.enum_top.specs.declared.refusal.Refusal.TheVariants.{Usage, IllFormed, Outside, Memory}
 use Rattle.enum_top.specs.declared.status.Ending.{Ending}
@@ -51,6 +53,11 @@ string_in (Err cause) = Err cause
 abbrev pub wanted_in : Result Wanted Cause → Result (Option (List ℕ)) Cause
 wanted_in (Ok wanted) = Ok (wanted_text wanted)
 wanted_in (Err cause) = Err cause
+
+-- .. that is read, or its cause
+abbrev pub wanted_or_cause : Result Wanted ServiceFault → Result (Option (List ℕ)) Cause
+wanted_or_cause (Ok wanted) = Ok (wanted_text wanted)
+wanted_or_cause (Err fault) = Err (Want fault)
 
 -- what is asked, without the slices that it is held in
 abbrev pub asked_of : Asked → applications.Asked

@@ -1,8 +1,8 @@
 //! What the words ask of the zones.
-ghost use Rattle.std.specs.Prelude.{◌≡◌, Some, IfOk, option_map};
+ghost use Rattle.std.specs.Prelude.{◌≡◌, ◌≢◌, ℕ, Option, Some, IfOk, option_map};
 ghost use Rattle.enum_app.specs.Number.{digits_of, key_labels};
 ghost use Rattle.enum_top.specs.Applications.{Apexes, Asks, Strings, Wants, Numbered, fitting};
-ghost use Rattle.enum_top.specs.Running.{asked_in, string_in, wanted_in};
+ghost use Rattle.enum_top.specs.Running.{asked_in, string_in, wanted_in, wanted_or_cause};
 ghost use Rattle.request_words.specs.Words.{text_at, texts_of};
 
 use crate::cause::Cause;
@@ -10,7 +10,8 @@ use dns_name::Name;
 use enum_app::{Number, default_apex};
 use enum_base::Text255;
 use request_words::{AppName, text_at};
-use service_field::{Wanted, want_enum};
+use service_field::{ServiceFault, Wanted, want_enum, want_snaptr};
+use snaptr_app::Domain;
 
 /// The original string of an application, the services that are wanted, and the domain that the walk begins at.
 #[derive(Clone, Copy, Debug)]
@@ -33,6 +34,8 @@ pub fn read_asked(
 {
     match app {
         AppName::Enum => ask_number(words, string, want, apex),
+        AppName::Snaptr => ask_domain(words, AppName::Snaptr, string, want),
+        AppName::Unaptr => ask_domain(words, AppName::Unaptr, string, want),
     }
 }
 
@@ -64,6 +67,31 @@ fn ask_number(
     })
 }
 
+// A domain, of which S-NAPTR and U-NAPTR ask for the text as it stands. No apex is looked at.
+fn ask_domain(
+    words: &[String],
+    app: AppName,
+    string: usize,
+    want: Option<usize>,
+) -> Result<Asked<'_>, Cause>
+    requires { app ≢ AppName.Enum }
+    ensures { (apex : Option ℕ) → Asks (texts_of words.now) app string want apex (asked_in result) }
+{
+    let domain = match Domain::parse(text_at(words, string).as_bytes()) {
+        Ok(domain) => domain,
+        Err(fault) => return Err(Cause::Domain(fault)),
+    };
+    let wanted = match read_wanted(app, words, want) {
+        Ok(wanted) => wanted,
+        Err(cause) => return Err(cause),
+    };
+    Ok(Asked {
+        string: domain.aus(),
+        wanted,
+        key: domain.key(),
+    })
+}
+
 fn read_number(text: &[u8]) -> Result<Number, Cause>
     ensures string { Strings AppName.Enum text.now (string_in result) }
     ensures digits { IfOk result (λ number. number ≡ digits_of text.now) }
@@ -87,10 +115,17 @@ fn read_wanted(app: AppName, words: &[String], want: Option<usize>) -> Result<Wa
 fn read_list(app: AppName, list: &[u8]) -> Result<Wanted<'_>, Cause>
     ensures { Wants app (Some list.now) (wanted_in result) }
 {
-    let wanted = match app {
-        AppName::Enum => want_enum(list),
-    };
-    match wanted {
+    match app {
+        AppName::Enum => wanted_or_cause(want_enum(list)),
+        AppName::Snaptr => wanted_or_cause(want_snaptr(list)),
+        AppName::Unaptr => wanted_or_cause(want_snaptr(list)),
+    }
+}
+
+fn wanted_or_cause(read: Result<Wanted<'_>, ServiceFault>) -> Result<Wanted<'_>, Cause>
+    ensures { wanted_in result ≡ wanted_or_cause read.entry }
+{
+    match read {
         Ok(wanted) => Ok(wanted),
         Err(fault) => Err(Cause::Want(fault)),
     }

@@ -11,12 +11,15 @@ use enum_app::NumberFault;
 use enum_base::{Failed, Sink, write_three, write_whole};
 use request_words::text_at;
 use service_field::ServiceFault;
+use snaptr_app::DomainFault;
 
 /// What is ill-formed. A file is named by the place of its name among the words.
 #[derive(Clone, Copy, Debug, PartialEq, Eq)]
 pub enum Cause {
     /// The string is no number.
     Number(NumberFault),
+    /// The string is no domain.
+    Domain(DomainFault),
     /// The wanted list.
     Want(ServiceFault),
     /// The apex is no name.
@@ -35,8 +38,12 @@ impl Cause {
         ensures { result ≡ cause_status self }
     {
         match self {
-            Cause::Number(_) | Cause::Want(_) | Cause::Apex(_) | Cause::Key | Cause::Absent(_) =>
-                Status::IllFormed,
+            Cause::Number(_)
+            | Cause::Domain(_)
+            | Cause::Want(_)
+            | Cause::Apex(_)
+            | Cause::Key
+            | Cause::Absent(_) => Status::IllFormed,
             Cause::Unbuilt => Status::Unbuilt,
         }
     }
@@ -47,6 +54,12 @@ impl Cause {
     {
         match self {
             Cause::Number(fault) => write_three(
+                err,
+                b"enumd: ill-formed string ",
+                fault.words().as_slice(),
+                b"\n",
+            ),
+            Cause::Domain(fault) => write_three(
                 err,
                 b"enumd: ill-formed string ",
                 fault.words().as_slice(),

@@ -22,6 +22,7 @@ use enum_base::{MemoryFault, Shelf};
 use report_text::print_report;
 use request_words::AppName;
 use service_field::DddsApp;
+use snaptr_app::{SnaptrApp, UnaptrApp};
 use std::alloc::Global;
 
 /// Prints the report of the string that is the word at `string`, over the files whose names are the words at `places`.
@@ -64,6 +65,8 @@ fn report_of(
 {
     match app {
         AppName::Enum => walk_as(alloc, &EnumApp, asked, told),
+        AppName::Snaptr => walk_as(alloc, &SnaptrApp, asked, told),
+        AppName::Unaptr => walk_as(alloc, &UnaptrApp, asked, told),
     }
 }
 

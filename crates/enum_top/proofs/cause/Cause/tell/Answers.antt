@@ -3,6 +3,9 @@ use Rattle.enum_top.proofs.cause.Cause.tell.Goals as goal
 pub returns-in-Number : goal.returns-in-Number
 returns-in-Number g c = rw (c.in-Number.is, ← c.words.ensures, ← c.as_slice.ensures.value) c.write_three.ensures.takes
 
+pub returns-in-Domain : goal.returns-in-Domain
+returns-in-Domain g c = rw (c.in-Domain.is, ← c.words-in-Domain.ensures, ← c.as_slice-in-Domain.ensures.value) c.write_three-in-Domain.ensures.takes
+
 pub returns-in-Want : goal.returns-in-Want
 returns-in-Want g c = rw (c.in-Want.is, ← c.words-in-Want.ensures, ← c.as_slice-in-Want.ensures.value) c.write_three-in-Want.ensures.takes
 
