@@ -2,28 +2,35 @@
 
 /// The commands with their options, and the exit statuses.
 pub const HELP: &str = "\
-usage: enumd resolve enum STRING --zones FILE [options]
+usage: enumd resolve enum NUMBER --zones FILE [options]
+       enumd resolve snaptr DOMAIN --zones FILE [options]
+       enumd resolve unaptr DOMAIN --zones FILE [options]
        enumd --help
        enumd --version
 
-enumd resolves telephone numbers to URIs by the rules of zones (ENUM, RFC 6116).
+enumd resolves telephone numbers to URIs by the rules of zones (ENUM, RFC 6116),
+and domains to servers and URIs of a service (S-NAPTR, RFC 3958; U-NAPTR, RFC
+4848).
 
 Commands:
-  resolve enum STRING
-      prints one line for each end of the number STRING, as +442079460148, and
-      last a line with the number of ends; or the least loop, where the rules
-      lead round in a circle
+  resolve enum NUMBER
+  resolve snaptr DOMAIN
+  resolve unaptr DOMAIN
+      prints one line for each end of a number, as +442079460148, or a domain,
+      as example.com, and last a line with the number of ends; or the least
+      loop, where the rules lead round in a circle
 
 Options of resolve, in any order:
   --zones FILE  a zone file; 1 to 64 times, each with an apex of its own
   --want LIST   services that are wanted, as sip or email:mailto,web
-  --apex NAME   the domain under which numbers stand (e164.arpa.)
+  --apex NAME   the domain under which numbers stand (e164.arpa.); enum alone
 
 Exit statuses:
   0  done: there is an end or more
   1  nothing: there is no end
   2  the words are no command
-  3  the number, the list or the apex is ill-formed, or a file is not there
+  3  the number, the domain, the list or the apex is ill-formed, or a file is
+     not there
   4  there is a loop
   5  reading a file or writing the output failed
   6  memory was wanting
