@@ -49,7 +49,10 @@ fn answer(alloc: Global, origin: Name, text: &str) -> Result<Bytes, MemoryFault>
     let mut bytes = Bytes::new(alloc);
     escapes::push_undone(&mut bytes, text)?;
     let mut whole = Bytes::new(alloc);
-    printing::push_answer(&mut whole, &read(alloc, origin, bytes.as_slice(), bytes.as_slice().len()))?;
+    printing::push_answer(
+        &mut whole,
+        &read(alloc, origin, bytes.as_slice(), bytes.as_slice().len()),
+    )?;
     let mut parts = Bytes::new(alloc);
     printing::push_answer(&mut parts, &read(alloc, origin, bytes.as_slice(), 1))?;
     if whole.as_slice() != parts.as_slice() {

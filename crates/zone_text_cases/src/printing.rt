@@ -127,7 +127,12 @@ fn push_string(out: &mut Bytes, text: &Text255) -> Result<(), MemoryFault> {
         match *byte {
             b'"' | b'\\' => out.push_slice(&[b'\\', *byte])?,
             b' '..=b'~' => out.push_slice(&[*byte])?,
-            byte => out.push_slice(&[b'\\', b'0' + byte / 100, b'0' + byte / 10 % 10, b'0' + byte % 10])?,
+            byte => out.push_slice(&[
+                b'\\',
+                b'0' + byte / 100,
+                b'0' + byte / 10 % 10,
+                b'0' + byte % 10,
+            ])?,
         }
     }
     out.push_slice(b"\"")
@@ -151,7 +156,10 @@ fn push_groups(out: &mut Bytes, address: &[u8; 16]) -> Result<(), MemoryFault> {
         if group > 0 {
             out.push_slice(b":")?;
         }
-        push_group(out, 256 * u16::from(address[2 * group]) + u16::from(address[2 * group + 1]))?;
+        push_group(
+            out,
+            256 * u16::from(address[2 * group]) + u16::from(address[2 * group + 1]),
+        )?;
     }
     Ok(())
 }
@@ -171,6 +179,10 @@ fn push_group(out: &mut Bytes, group: u16) -> Result<(), MemoryFault> {
 
 fn push_digit(out: &mut Bytes, number: u16) -> Result<(), MemoryFault> {
     let digit = (number % 16) as u8;
-    let letter = if digit < 10 { b'0' + digit } else { b'a' + digit - 10 };
+    let letter = if digit < 10 {
+        b'0' + digit
+    } else {
+        b'a' + digit - 10
+    };
     out.push_slice(&[letter])
 }
