@@ -1,11 +1,11 @@
 -- Files that are read in turn.
-use Rattle.std.proofs.Common.{◌≡◌, inl, inr, ℕ, suc, ◌+◌, ◌<◌, ◌≤◌, List, [], ◌∷◌, ◌++◌, length, drop, get_or, Option, Result, Ok, Err, refl, sym, ap, subst, ◌∙◌, length-append, arith}
+use Rattle.std.proofs.Common.{◌≡◌, ℕ, suc, ◌+◌, ◌<◌, ◌≤◌, List, [], ◌∷◌, length, drop, get_or, Option, Result, Ok, Err, refl, sym, ap, subst, ◌∙◌, arith}
 use Rattle.std.proofs.Math.Seq.{drop-cons}
 use Rattle.std.proofs.lemmas.Grind.{common_steps}
 use Rattle.enum_base.specs.Outside.{File}
-use Rattle.naptr_data.specs.Zones.{Zone}
+use Rattle.zone_db.specs.Zone.{Zone}
 use Rattle.enum_top.specs.Verdicts.Then.{goes, stops}
-use Rattle.enum_top.specs.ZoneFiles.{Builds, NextZone, ZonesFrom}
+use Rattle.enum_top.specs.ZoneFiles.{NextZone, ZoneAt, ZonesFrom}
 use Rattle.enum_top.specs.declared.cause.Cause.{Cause}
 
 next_place : (places : List ℕ) (i : ℕ) → i < length places → drop i places ≡ get_or places i 0 ∷ drop (i + 1) places
@@ -38,16 +38,6 @@ all_read files words places i zones end leads =
     drop-all xs k le = grind (arith, common_steps)
 
 -- a shelf that was read tells the same files
-pub same_shelf : (now files : Option (List File)) (words : List (List ℕ)) (zones : List Zone) (place : ℕ) (result : Result (List Zone) Cause) → now ≡ files → NextZone now words zones place result → NextZone files words zones place result
-same_shelf now files words zones place result same h =
-    subst (λ (fs : Option (List File)). NextZone fs words zones place result) same h
-
--- one zone more
-count_built : (zones more : List Zone) (bytes : List ℕ) → Builds zones bytes (Ok more) → length more ≡ length zones + 1
-count_built zones more bytes (inl (zone, next, is)) =
-    let same : more ≡ zones ++ zone ∷ [] = cc is in ap length same ∙ length-append zones (zone ∷ [])
-count_built zones more bytes (inr (none, is)) = absurd (cc is)
-
-pub count_more : (files : Option (List File)) (words : List (List ℕ)) (zones : List Zone) (place : ℕ) (more : List Zone) → NextZone files words zones place (Ok more) → length more ≡ length zones + 1
-count_more files words zones place more (goes bytes read built) = count_built zones more bytes built
-count_more files words zones place more (stops cause stopped is) = absurd (cc is)
+pub same_shelf : (now files : Option (List File)) (words : List (List ℕ)) (place : ℕ) (result : Result Zone Cause) → now ≡ files → ZoneAt now words place result → ZoneAt files words place result
+same_shelf now files words place result same h =
+    subst (λ (fs : Option (List File)). ZoneAt fs words place result) same h

@@ -3,7 +3,8 @@ use Rattle.std.proofs.Common.{◌≡◌, inl, inr, ℕ, List, [], ◌∷◌, ◌
 use Rattle.std.specs.Prelude.{IsSome}
 use Rattle.dns_name.specs.Name.{folded_labels}
 use Rattle.enum_base.specs.Outside.{File}
-use Rattle.naptr_data.specs.Zones.{Zone}
+use Rattle.zone_db.specs.Plain as plain
+use Rattle.zone_db.specs.Zone.{Zone}
 use Rattle.request_words.specs.declared.request.AppName.{AppName}
 use Rattle.request_words.specs.declared.request.Origin.TheVariants as origin
 use Rattle.request_words.specs.declared.request.Request.{Request}
@@ -14,49 +15,32 @@ use Rattle.enum_top.specs.Resolving.{Reports, Resolves, client_for}
 use Rattle.enum_top.specs.Verdicts.{Told, Verdict}
 use Rattle.enum_top.specs.Verdicts.Then.{stops}
 use Rattle.enum_top.specs.Verdicts.Verdict.{refuses}
-use Rattle.enum_top.specs.ZoneFiles.{Builds, ZonesFrom}
 use Rattle.enum_top.specs.declared.cause.Cause.{Cause}
 use Rattle.enum_top.specs.declared.status.Printed.{Printed}
 use Rattle.enum_top.proofs.AskedLemmas.{IsSingle-asks}
 use Rattle.enum_top.proofs.OneAnswer.{HasOneText}
-use Rattle.enum_top.proofs.PlainWhole.{one-way}
+use Rattle.enum_top.proofs.OneZones.{AreLaws, IsSingle-from}
 use Rattle.enum_top.proofs.StageLaws.{IsSingle, IsSingle-is, IsSingle-then, one_whole}
-
--- a text goes after zones as one zone, or not at all
-IsSingle-builds : (zones : List Zone) (bytes : List ℕ) → IsSingle (Builds zones bytes)
-IsSingle-builds zones bytes = record { same = same }
-  where
-    same : (r s : Result (List Zone) Cause) → Builds zones bytes r → Builds zones bytes s → r ≡ s
-    same r s (inl (one, next, is)) (inl (other, next', is')) =
-        is ∙ ap (λ z. Ok (zones ++ z ∷ [])) (one-way bytes one other next.plain next'.plain) ∙ sym is'
-    same r s (inl (one, next, is)) (inr (none, is')) = absurd (none one next)
-    same r s (inr (none, is)) (inl (other, next', is')) = absurd (none other next')
-    same r s (inr (none, is)) (inr (none', is')) = is ∙ sym is'
-
-IsSingle-from : (files : List File) (words : List (List ℕ)) (zones : List Zone) (places : List ℕ) → IsSingle (ZonesFrom (Some files) words zones places)
-IsSingle-from files words zones [] = IsSingle-is _
-IsSingle-from files words zones (place ∷ places) =
-    IsSingle-then _ _ (IsSingle-then _ _ (IsSingle-is _) (λ bytes. IsSingle-builds zones bytes)) (λ more. IsSingle-from files words more places)
 
 IsSingle-reports : HasOneText → (app : AppName) (asked : Asked) (zones : List Zone) → IsSingle (Reports app asked zones)
 IsSingle-reports law app asked zones = record { same = same }
   where
     same : (r s : Result Printed Cause) → Reports app asked zones r → Reports app asked zones s → r ≡ s
     same r s (one, answers, is) (other, answers', is') =
-        is ∙ ap Ok (law (client_for app asked) zones (folded_labels asked.key) one other answers answers') ∙ sym is'
+        is ∙ ap Ok (law (client_for app asked) (plain.told zones) (folded_labels asked.key) one other answers answers') ∙ sym is'
 
-IsSingle-resolves : HasOneText → (files : List File) (words : List (List ℕ)) (app : AppName) (string : ℕ) (want apex : Option ℕ) (places : List ℕ) → IsSingle (Resolves (Some files) words app string want apex places)
-IsSingle-resolves law files words app string want apex places =
-    IsSingle-then _ _ (IsSingle-asks words app string want apex) (λ asked. IsSingle-then _ _ (IsSingle-from files words [] places) (λ zones. IsSingle-reports law app asked zones))
+IsSingle-resolves : AreLaws → HasOneText → (files : List File) (words : List (List ℕ)) (app : AppName) (string : ℕ) (want apex : Option ℕ) (places : List ℕ) → IsSingle (Resolves (Some files) words app string want apex places)
+IsSingle-resolves laws law files words app string want apex places =
+    IsSingle-then _ _ (IsSingle-asks words app string want apex) (λ asked. IsSingle-then _ _ (IsSingle-from laws files words [] places) (λ zones. IsSingle-reports law app asked zones))
 
 told_files : (files : Option (List File)) → IsSome files → (list : List File) × (files ≡ Some list)
 told_files None some = absurd (cc some)
 told_files (Some list) some = (list, refl)
 
-pub one_answer : HasOneText → (told : Told) (words : List (List ℕ)) (request : Request) (one other : Verdict) → AreTold request told → Answers told words request one → Answers told words request other → one ≡ other
-one_answer law told words (Resolve app string want apex (origin.Files zones)) one other seen h k =
+pub one_answer : AreLaws → HasOneText → (told : Told) (words : List (List ℕ)) (request : Request) (one other : Verdict) → AreTold request told → Answers told words request one → Answers told words request other → one ≡ other
+one_answer laws law told words (Resolve app string want apex (origin.Files zones)) one other seen h k =
     let files = told_files told.files (seen.on_shelf refl) in
-    one_whole _ (subst (λ (fs : Option (List File)). IsSingle (Resolves fs words app string want apex (take zones.count zones.at))) (sym files.1) (IsSingle-resolves law files.0 words app string want apex (take zones.count zones.at))) one other h k
+    one_whole _ (subst (λ (fs : Option (List File)). IsSingle (Resolves fs words app string want apex (take zones.count zones.at))) (sym files.1) (IsSingle-resolves laws law files.0 words app string want apex (take zones.count zones.at))) one other h k
 
 -- a cause of the words alone stops the first stage
 pub early_answer : (told : Told) (words : List (List ℕ)) (request : Request) (cause : Cause) → Breaks words request cause → Answers told words request (refuses [] cause)

@@ -6,7 +6,7 @@ use Rattle.request_words.proofs.ReadingLemmas.{one_request}
 use Rattle.request_words.specs.Words.{IsRequest, Means}
 use Rattle.request_words.specs.declared.request.Request.{Request}
 use Rattle.enum_top.specs.Answers.{Answers, AreTold, Breaks, ComesTo, IsText, Leaves}
-use Rattle.enum_top.specs.Endings.{status_of, cause_status, ended_as, IsCauses, IsPlain}
+use Rattle.enum_top.specs.Endings.{status_of, ended_as, IsPlain}
 use Rattle.enum_top.specs.FaultLines.{cause_line, line_of}
 use Rattle.enum_top.specs.Running.{Ends, EndsWith, Keeps, ended}
 use Rattle.enum_top.specs.Verdicts.{Told, Verdict}
@@ -36,17 +36,17 @@ module _ (told : Told) (words : List (List ℕ)) (out out' err err' : SinkState)
     λ none. r.is ∙ ap ended (r.runs.request none),
   )
 
-  pub ends_early : (request : Request) (cause : Cause) → Means words request → Breaks words request cause → (end ≡ cause_status cause) × Takes err err' (cause_line words cause)
+  pub ends_early : (request : Request) (cause : Cause) → Means words request → Breaks words request cause → (end ≡ status.IllFormed) × Takes err err' (cause_line words cause)
   ends_early request cause m b =
       let is = r.runs.early request cause m b in (r.is ∙ ap ended is, r.tells (IllFormed cause) is)
 
   pub ends_printed : (ending : Ending) → end ≡ status_of ending → (text : List ℕ) × ComesTo told words (prints ending text) × Gains out out' text
   ends_printed ending e = r.runs.printed ending (at_ending r.result ending (sym r.is ∙ e))
 
-  pub ends_ill_formed : IsCauses end → (cause : Cause) × (end ≡ cause_status cause) × ((front : List ℕ) × ComesTo told words (refuses front cause) × Gains out out' front) × Takes err err' (cause_line words cause)
-  ends_ill_formed c =
-      let found = at_cause r.result (subst IsCauses r.is c) in
-      (found.0, r.is ∙ ap ended found.1, r.runs.refused found.0 found.1, r.tells (IllFormed found.0) found.1)
+  pub ends_ill_formed : end ≡ status.IllFormed → (cause : Cause) × ((front : List ℕ) × ComesTo told words (refuses front cause) × Gains out out' front) × Takes err err' (cause_line words cause)
+  ends_ill_formed e =
+      let found = at_cause r.result (sym r.is ∙ e) in
+      (found.0, r.runs.refused found.0 found.1, r.tells (IllFormed found.0) found.1)
 
   pub ends_kept : (why : Refusal) → Keeps why → end ≡ ended_as why → (front : List ℕ) × Leaves told words front × Gains out out' front
   ends_kept why k e = r.runs.kept why k (at_refusal r.result why (plain why k) (sym r.is ∙ e))

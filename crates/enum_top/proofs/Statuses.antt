@@ -1,44 +1,28 @@
 -- What a status tells of the result that it is of.
-use Rattle.std.proofs.Common.{◌≡◌, inl, inr, Result, Ok, Err, refl, sym, ap, subst}
-use Rattle.enum_top.specs.Endings.{status_of, cause_status, ended_as, IsCauses, IsPlain}
+use Rattle.std.proofs.Common.{◌≡◌, Result, Ok, Err, refl, sym, ap}
+use Rattle.enum_top.specs.Endings.{status_of, ended_as, IsPlain}
 use Rattle.enum_top.specs.Running.{ended}
 use Rattle.enum_top.specs.declared.cause.Cause.{Cause}
-use Rattle.enum_top.specs.declared.cause.Cause.TheVariants.{Number, Domain, Want, Apex, Key, Absent, Unbuilt}
 use Rattle.enum_top.specs.declared.refusal.Refusal.{Refusal}
 use Rattle.enum_top.specs.declared.refusal.Refusal.TheVariants.{Usage, IllFormed, Outside, Memory}
 use Rattle.enum_top.specs.declared.status.Ending.{Ending}
 use Rattle.enum_top.specs.declared.status.Ending.TheVariants.{Done, Nothing, Loop}
+use Rattle.enum_top.specs.declared.status.Status.TheVariants as status
 
--- the status of a cause
-causes : (cause : Cause) → IsCauses (cause_status cause)
-causes (Number fault) = inl refl
-causes (Domain fault) = inl refl
-causes (Want fault) = inl refl
-causes (Apex fault) = inl refl
-causes Key = inl refl
-causes (Absent place) = inl refl
-causes Unbuilt = inr refl
+no_ending : (ending : Ending) → status_of ending ≡ status.IllFormed → ⊥
+no_ending Done e = cc e
+no_ending Nothing e = cc e
+no_ending Loop e = cc e
 
-no_ending : (ending : Ending) → IsCauses (status_of ending) → ⊥
-no_ending Done (inl e) = cc e
-no_ending Done (inr e) = cc e
-no_ending Nothing (inl e) = cc e
-no_ending Nothing (inr e) = cc e
-no_ending Loop (inl e) = cc e
-no_ending Loop (inr e) = cc e
-
-no_plain : (why : Refusal) → IsPlain why → IsCauses (ended_as why) → ⊥
-no_plain Usage p (inl e) = cc e
-no_plain Usage p (inr e) = cc e
-no_plain (IllFormed cause) p c = p
-no_plain (Outside object) p (inl e) = cc e
-no_plain (Outside object) p (inr e) = cc e
-no_plain Memory p (inl e) = cc e
-no_plain Memory p (inr e) = cc e
+no_plain : (why : Refusal) → IsPlain why → ended_as why ≡ status.IllFormed → ⊥
+no_plain Usage p e = cc e
+no_plain (IllFormed cause) p e = p
+no_plain (Outside object) p e = cc e
+no_plain Memory p e = cc e
 
 -- no refusal ends as a text does
 apart : (ending : Ending) (why : Refusal) → status_of ending ≡ ended_as why → ⊥
-apart ending (IllFormed cause) e = no_ending ending (subst IsCauses (sym e) (causes cause))
+apart ending (IllFormed cause) e = no_ending ending e
 apart Done Usage e = cc e
 apart Done (Outside object) e = cc e
 apart Done Memory e = cc e
@@ -62,7 +46,7 @@ one_ending Loop Loop e = refl
 
 -- a plain status tells the refusal
 one_refusal : (why other : Refusal) → IsPlain why → ended_as other ≡ ended_as why → other ≡ why
-one_refusal why (IllFormed cause) p e = absurd (no_plain why p (subst IsCauses e (causes cause)))
+one_refusal why (IllFormed cause) p e = absurd (no_plain why p (sym e))
 one_refusal Usage Usage p e = refl
 one_refusal Usage (Outside object) p e = absurd (cc e)
 one_refusal Usage Memory p e = absurd (cc e)
@@ -84,12 +68,12 @@ pub at_refusal : (result : Result Ending Refusal) (why : Refusal) → IsPlain wh
 at_refusal (Ok ending) why p e = absurd (apart ending why e)
 at_refusal (Err other) why p e = ap Err (one_refusal why other p e)
 
-cause_of : (why : Refusal) → IsCauses (ended_as why) → (cause : Cause) × (why ≡ IllFormed cause)
-cause_of Usage c = absurd (no_plain Usage tt c)
-cause_of (IllFormed cause) c = (cause, refl)
-cause_of (Outside object) c = absurd (no_plain (Outside object) tt c)
-cause_of Memory c = absurd (no_plain Memory tt c)
+cause_of : (why : Refusal) → ended_as why ≡ status.IllFormed → (cause : Cause) × (why ≡ IllFormed cause)
+cause_of Usage e = absurd (cc e)
+cause_of (IllFormed cause) e = (cause, refl)
+cause_of (Outside object) e = absurd (cc e)
+cause_of Memory e = absurd (cc e)
 
-pub at_cause : (result : Result Ending Refusal) → IsCauses (ended result) → (cause : Cause) × (result ≡ Err (IllFormed cause))
-at_cause (Ok ending) c = absurd (no_ending ending c)
-at_cause (Err why) c = let found = cause_of why c in (found.0, ap Err found.1)
+pub at_cause : (result : Result Ending Refusal) → ended result ≡ status.IllFormed → (cause : Cause) × (result ≡ Err (IllFormed cause))
+at_cause (Ok ending) e = absurd (no_ending ending e)
+at_cause (Err why) e = let found = cause_of why e in (found.0, ap Err found.1)

@@ -1,7 +1,5 @@
 -- The statuses of what a run comes to, and their numbers (this project's own).
-use Rattle.std.specs.Prelude.{◌≡◌, ◌⊎◌, ℕ}
-use Rattle.enum_top.specs.declared.cause.Cause.{Cause}
-use Rattle.enum_top.specs.declared.cause.Cause.TheVariants.{Number, Domain, Want, Apex, Key, Absent, Unbuilt}
+use Rattle.std.specs.Prelude.{ℕ}
 use Rattle.enum_top.specs.declared.refusal.Refusal.{Refusal}
 use Rattle.enum_top.specs.declared.refusal.Refusal.TheVariants.{Usage, IllFormed, Outside, Memory}
 use Rattle.enum_top.specs.declared.status.Ending.{Ending}
@@ -15,24 +13,10 @@ status_of Done = status.Done
 status_of Nothing = status.Nothing
 status_of Loop = status.Loop
 
--- the status of a cause
-abbrev pub cause_status : Cause → Status
-cause_status (Number fault) = status.IllFormed
-cause_status (Domain fault) = status.IllFormed
-cause_status (Want fault) = status.IllFormed
-cause_status (Apex fault) = status.IllFormed
-cause_status Key = status.IllFormed
-cause_status (Absent place) = status.IllFormed
-cause_status Unbuilt = status.Unbuilt
-
--- the statuses of causes
-abbrev pub IsCauses : Status → Type 0
-IsCauses end = (end ≡ status.IllFormed) ⊎ (end ≡ status.Unbuilt)
-
 -- the status of a refusal
 abbrev pub ended_as : Refusal → Status
 ended_as Usage = status.Usage
-ended_as (IllFormed cause) = cause_status cause
+ended_as (IllFormed cause) = status.IllFormed
 ended_as (Outside object) = status.Outside object
 ended_as Memory = status.Memory
 
@@ -52,4 +36,3 @@ code_of status.IllFormed = 3
 code_of status.Loop = 4
 code_of (status.Outside object) = 5
 code_of status.Memory = 6
-code_of status.Unbuilt = 9

@@ -5,14 +5,20 @@ use Rattle.enum_app.specs.FaultWords.{number_fault}
 use Rattle.request_words.specs.Words.{text_at}
 use Rattle.service_field.specs.FaultWords.{service_fault}
 use Rattle.snaptr_app.specs.FaultWords.{domain_fault_words}
+use Rattle.zone_db.specs.FaultWords.{add_fault, zone_fault}
+use Rattle.zone_text.specs.FaultWords.{text_fault}
 use Rattle.enum_top.specs.declared.cause.Cause.{Cause}
-use Rattle.enum_top.specs.declared.cause.Cause.TheVariants.{Number, Domain, Want, Apex, Key, Absent, Unbuilt}
+use Rattle.enum_top.specs.declared.cause.Cause.TheVariants.{Number, Domain, Want, Apex, Key, Absent, Text, Zone, Set}
 use Rattle.enum_top.specs.declared.refusal.Refusal.{Refusal}
 use Rattle.enum_top.specs.declared.refusal.Refusal.TheVariants.{Usage, IllFormed, Outside, Memory}
 use Rattle.enum_top.specs.declared.status.Object.{Object}
 use Rattle.enum_top.specs.declared.status.Object.TheVariants.{Shelf, Output}
 
--- the line of what is ill-formed; a file is named by the word at its place
+-- the line of what a file is; the file is named by the word at its place
+abbrev pub file_line : List ℕ → List (List ℕ) → ℕ → List ℕ → List ℕ
+file_line head words file fault = head ++ text_at words file ++ codes " " ++ fault ++ codes "\n"
+
+-- the line of what is ill-formed
 abbrev pub cause_line : List (List ℕ) → Cause → List ℕ
 cause_line words (Number fault) = codes "enumd: ill-formed string " ++ number_fault fault ++ codes "\n"
 cause_line words (Domain fault) = codes "enumd: ill-formed string " ++ domain_fault_words fault ++ codes "\n"
@@ -20,7 +26,9 @@ cause_line words (Want fault) = codes "enumd: ill-formed want " ++ service_fault
 cause_line words (Apex fault) = codes "enumd: ill-formed apex " ++ name_fault fault ++ codes "\n"
 cause_line words Key = codes "enumd: ill-formed key NameTooLong\n"
 cause_line words (Absent place) = codes "enumd: ill-formed file " ++ text_at words place ++ codes "\n"
-cause_line words Unbuilt = codes "enumd: unbuilt\n"
+cause_line words (Text file fault) = file_line (codes "enumd: ill-formed text ") words file (text_fault fault)
+cause_line words (Zone file fault) = file_line (codes "enumd: ill-formed zone ") words file (zone_fault fault)
+cause_line words (Set file fault) = file_line (codes "enumd: ill-formed zone ") words file (add_fault fault)
 
 -- the line of a call that failed
 abbrev pub outside_line : Object → List ℕ

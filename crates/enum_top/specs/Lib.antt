@@ -2,11 +2,7 @@ pub mod Answers
 pub mod Applications
 pub mod Endings
 pub mod FaultLines
-pub mod Plain
-pub mod PlainReading
-pub mod PlainZone
 pub mod Resolving
 pub mod Running
-pub mod Told
 pub mod Verdicts
 pub mod ZoneFiles

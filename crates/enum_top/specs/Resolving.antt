@@ -6,7 +6,8 @@ use Rattle.ddds_walk.specs.Rules.{Client, client_of}
 use Rattle.ddds_walk.specs.declared.report.Report.{Report}
 use Rattle.ddds_walk.specs.declared.report.Report.TheVariants.{Ends, Loop}
 use Rattle.enum_base.specs.Outside.{File}
-use Rattle.naptr_data.specs.Zones.{Zone}
+use Rattle.zone_db.specs.Plain.{told}
+use Rattle.zone_db.specs.Zone.{Zone}
 use Rattle.report_text.specs.Printing.{printed}
 use Rattle.request_words.specs.declared.request.AppName.{AppName}
 use Rattle.enum_top.specs.Applications.{Asked, Asks, meaning_of}
@@ -34,7 +35,7 @@ printed_as report = record { ending = ending_of report; text = printed report }
 -- the text of what a walk over the zones answers
 abbrev pub Reports : AppName → Asked → List Zone → Result Printed Cause → Type 0
 Reports app asked zones result =
-    (report : Report) × Answers (client_for app asked) zones (folded_labels asked.key) report × (result ≡ Ok (printed_as report))
+    (report : Report) × Answers (client_for app asked) (told zones) (folded_labels asked.key) report × (result ≡ Ok (printed_as report))
 
 -- what is asked, then the zones of the files, then the report
 abbrev pub Resolves : Option (List File) → List (List ℕ) → AppName → ℕ → Option ℕ → Option ℕ → List ℕ → Result Printed Cause → Type 0

@@ -1,10 +1,13 @@
 -- How a run comes to its answer.
-use Rattle.std.specs.Prelude.{◌≡◌, ℕ, List, ◌∷◌, take, Option, Result, Ok, Err}
+use Rattle.std.specs.Prelude.{◌≡◌, ◌≢◌, ◌⊎◌, ℕ, List, ◌∷◌, take, Option, Some, None, Result, Ok, Err}
 use Rattle.enum_app.specs.Number.{plus}
 use Rattle.service_field.specs.Wanted.{wanted_text}
 use Rattle.service_field.specs.declared.fault.ServiceFault.{ServiceFault}
 use Rattle.service_field.specs.declared.wanted.Wanted.{Wanted}
-use Rattle.naptr_data.specs.Zones.{Zone}
+use Rattle.dns_wire.specs.declared.record.Record.{Record}
+use Rattle.zone_db.specs.Zone.{Zone}
+use Rattle.zone_text.specs.declared.fault.TextFault.{TextFault}
+use Rattle.zone_text.specs.declared.fault.TextWhy.TheVariants as text
 use Rattle.enum_base.specs.Causes.{Blames}
 use Rattle.enum_base.specs.Outside.{ShelfState, SinkState}
 use Rattle.enum_base.specs.Writing.{Gains, Takes}
@@ -12,20 +15,21 @@ use Rattle.request_words.specs.Words.{Means, IsRequest}
 use Rattle.request_words.specs.declared.request.Request.{Request}
 use Rattle.enum_top.specs.Answers.{Breaks, ComesTo, IsText, Leaves}
 use Rattle.enum_top.specs.Applications as applications
-use Rattle.enum_top.specs.Endings.{status_of, cause_status, ended_as}
+use Rattle.enum_top.specs.Endings.{status_of, ended_as}
 use Rattle.enum_top.specs.FaultLines.{cause_line, line_of}
-use Rattle.enum_top.specs.Verdicts.{Told, Verdict}
+use Rattle.enum_top.specs.Verdicts.{Then, Told, Verdict}
 use Rattle.enum_top.specs.Verdicts.Verdict.{prints, refuses}
 use Rattle.enum_top.specs.declared.asked.Asked.{Asked}
+use Rattle.enum_top.specs.ZoneFiles.{Texts}
 use Rattle.enum_top.specs.declared.cause.Cause.{Cause}
-use Rattle.enum_top.specs.declared.cause.Cause.TheVariants.{Want}
+use Rattle.enum_top.specs.declared.cause.Cause.TheVariants.{Text, Want}
 use Rattle.enum_top.specs.declared.refusal.Refusal.{Refusal}
 use Rattle.enum_top.specs.declared.refusal.Refusal.TheVariants.{Usage, IllFormed, Outside, Memory}
 use Rattle.enum_top.specs.declared.status.Ending.{Ending}
 use Rattle.enum_top.specs.declared.status.Object.{Object}
 use Rattle.enum_top.specs.declared.status.Object.TheVariants.{Shelf, Output}
 use Rattle.enum_top.specs.declared.status.Status.{Status}
-use Rattle.enum_top.specs.declared.told.ToldZones.{ToldZones}
+use Rattle.enum_top.specs.declared.status.Status.TheVariants as status
 
 -- a part of the work was done or stopped as `One` says; only objects that are used fail
 pub record Does {A : Type 0} (Used : Object → Type 0) (One : Result A Cause → Type 0) (result : Result A Refusal) : Type 0 where
@@ -67,12 +71,20 @@ abbrev pub asked_in : Result Asked Cause → Result applications.Asked Cause
 asked_in (Ok asked) = Ok (asked_of asked)
 asked_in (Err cause) = Err cause
 
--- the zones of a source
-abbrev pub zones_in : Result ToldZones Cause → Result (List Zone) Cause
-zones_in (Ok told) = Ok told.zones
-zones_in (Err cause) = Err cause
+-- the bytes left of a fetched file; where that is not told, any
+abbrev pub LeftBytes : Option (List ℕ) → Result (List ℕ) Cause → Type 0
+LeftBytes (Some bytes) result = result ≡ Ok bytes
+LeftBytes None result = (bytes : List ℕ) × (result ≡ Ok bytes)
 
--- .. after one more was added, or the cause why not
+-- .. as a zone text
+abbrev pub LeftText : Option (List ℕ) → ℕ → Result (List Record) Cause → Type 0
+LeftText left place = Then (LeftBytes left) (Texts place)
+
+-- the refusal of a broken text
+abbrev pub Refuses : ℕ → TextFault → Refusal → Type 0
+Refuses place fault why = (why ≡ Memory) ⊎ ((fault.why ≢ text.Memory) × (why ≡ IllFormed (Text place fault)))
+
+-- the zones after one more was added, or the cause why not
 abbrev pub zones_after : List Zone → Result (Unit {0}) Cause → Result (List Zone) Cause
 zones_after zones (Ok done) = Ok zones
 zones_after zones (Err cause) = Err cause
@@ -111,4 +123,4 @@ pub record Ends (told : Told) (words : List (List ℕ)) (out out' err err' : Sin
 abbrev pub EndsWith : List (List ℕ) → Verdict → Status → (out out' err err' : SinkState) → Type 0
 EndsWith words (prints ending text) end out out' err err' = (end ≡ status_of ending) × Gains out out' text
 EndsWith words (refuses front cause) end out out' err err' =
-    (end ≡ cause_status cause) × Gains out out' front × Takes err err' (cause_line words cause)
+    (end ≡ status.IllFormed) × Gains out out' front × Takes err err' (cause_line words cause)

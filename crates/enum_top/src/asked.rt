@@ -1,12 +1,12 @@
 //! What the words ask of the zones.
 ghost use Rattle.std.specs.Prelude.{◌≡◌, ◌≢◌, ℕ, Option, Some, IfOk, option_map};
 ghost use Rattle.enum_app.specs.Number.{digits_of, key_labels};
-ghost use Rattle.enum_top.specs.Applications.{Apexes, Asks, Strings, Wants, Numbered, fitting};
+ghost use Rattle.enum_top.specs.Applications.{Asks, Numbered, Strings, Wants, apex_of, fitting};
 ghost use Rattle.enum_top.specs.Running.{asked_in, string_in, wanted_in, wanted_or_cause};
 ghost use Rattle.request_words.specs.Words.{text_at, texts_of};
 
 use crate::cause::Cause;
-use dns_name::Name;
+use dns_name::{Name, NameFault};
 use enum_app::{Number, default_apex};
 use enum_base::Text255;
 use request_words::{AppName, text_at};
@@ -135,26 +135,19 @@ fn wanted_or_cause(read: Result<Wanted<'_>, ServiceFault>) -> Result<Wanted<'_>,
 fn read_key(number: &Number, words: &[String], apex: Option<usize>) -> Result<Name, Cause>
     ensures { Numbered number.now (option_map (text_at (texts_of words.now)) apex) result }
 {
-    let top = read_apex(words, apex)?;
-    key_under(number, &top)
-}
-
-// The apex at a place; `e164.arpa.` where there is none.
-fn read_apex(words: &[String], apex: Option<usize>) -> Result<Name, Cause>
-    ensures { Apexes (option_map (text_at (texts_of words.now)) apex) result }
-{
-    match apex {
-        Some(place) => read_name(text_at(words, place).as_bytes()),
-        None => Ok(default_apex()),
+    match read_apex(words, apex) {
+        Ok(top) => key_under(number, &top),
+        Err(fault) => Err(Cause::Apex(fault)),
     }
 }
 
-fn read_name(text: &[u8]) -> Result<Name, Cause>
-    ensures { Apexes (Some text.now) result }
+// The apex at a place; `e164.arpa.` where there is none.
+fn read_apex(words: &[String], apex: Option<usize>) -> Result<Name, NameFault>
+    ensures { result ≡ apex_of (option_map (text_at (texts_of words.now)) apex) }
 {
-    match Name::from_text(text, Some(&Name::root())) {
-        Ok(name) => Ok(name),
-        Err(fault) => Err(Cause::Apex(fault)),
+    match apex {
+        Some(place) => Name::from_text(text_at(words, place).as_bytes(), Some(&Name::root())),
+        None => Ok(default_apex()),
     }
 }
 

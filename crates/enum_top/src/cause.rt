@@ -1,17 +1,17 @@
 //! What is ill-formed, and the line that tells it.
-ghost use Rattle.std.specs.Prelude.{◌≡◌};
+ghost use Rattle.std.specs.Prelude.{◌≡◌, ◌++◌, codes};
 ghost use Rattle.enum_base.specs.Writing.{Takes};
 ghost use Rattle.request_words.specs.Words.{texts_of};
-ghost use Rattle.enum_top.specs.Endings.{cause_status};
 ghost use Rattle.enum_top.specs.FaultLines.{cause_line};
 
-use crate::status::Status;
 use dns_name::NameFault;
 use enum_app::NumberFault;
-use enum_base::{Failed, Sink, write_three, write_whole};
+use enum_base::{Failed, FaultWords, Sink, write_three, write_two, write_whole};
 use request_words::text_at;
 use service_field::ServiceFault;
 use snaptr_app::DomainFault;
+use zone_db::{AddFault, ZoneFault};
+use zone_text::TextFault;
 
 /// What is ill-formed. A file is named by the place of its name among the words.
 #[derive(Clone, Copy, Debug, PartialEq, Eq)]
@@ -28,29 +28,18 @@ pub enum Cause {
     Key,
     /// This file is not there.
     Absent(usize),
-    /// A file is no plain text, or its apex is that of an earlier one.
-    Unbuilt,
+    /// The text of this file breaks.
+    Text { file: usize, fault: TextFault },
+    /// The records of this file make no zone.
+    Zone { file: usize, fault: ZoneFault },
+    /// The zone of this file does not go to those of the files before it.
+    Set { file: usize, fault: AddFault },
 }
 
 impl Cause {
-    /// The status that it ends a run with.
-    pub fn status(self) -> Status
-        ensures { result ≡ cause_status self }
-    {
-        match self {
-            Cause::Number(_)
-            | Cause::Domain(_)
-            | Cause::Want(_)
-            | Cause::Apex(_)
-            | Cause::Key
-            | Cause::Absent(_) => Status::IllFormed,
-            Cause::Unbuilt => Status::Unbuilt,
-        }
-    }
-
     /// Writes the line that tells it, until a write fails. Takes no memory.
-    pub fn tell<E: Sink>(self, words: &[String], err: &mut E) -> Result<(), Failed>
-        ensures { Takes (E.state err.old) (E.state err.new) (cause_line (texts_of words.now) self) }
+    pub fn tell<E: Sink>(&self, words: &[String], err: &mut E) -> Result<(), Failed>
+        ensures { Takes (E.state err.old) (E.state err.new) (cause_line (texts_of words.now) self.now) }
     {
         match self {
             Cause::Number(fault) => write_three(
@@ -81,10 +70,40 @@ impl Cause {
             Cause::Absent(place) => write_three(
                 err,
                 b"enumd: ill-formed file ",
-                text_at(words, place).as_bytes(),
+                text_at(words, *place).as_bytes(),
                 b"\n",
             ),
-            Cause::Unbuilt => write_whole(err, b"enumd: unbuilt\n"),
+            Cause::Text { file, fault } => tell_file(
+                err,
+                b"enumd: ill-formed text ",
+                text_at(words, *file),
+                &fault.words(),
+            ),
+            Cause::Zone { file, fault } => tell_file(
+                err,
+                b"enumd: ill-formed zone ",
+                text_at(words, *file),
+                &fault.words(),
+            ),
+            Cause::Set { file, fault } => tell_file(
+                err,
+                b"enumd: ill-formed zone ",
+                text_at(words, *file),
+                &fault.words(),
+            ),
         }
     }
+}
+
+// The line of what a file is.
+fn tell_file<E: Sink>(
+    err: &mut E,
+    head: &[u8],
+    name: &str,
+    fault: &FaultWords,
+) -> Result<(), Failed>
+    ensures { Takes (E.state err.old) (E.state err.new) (head.now ++ name.now ++ codes " " ++ fault.now ++ codes "\n") }
+{
+    write_three(err, head, name.as_bytes(), b" ")?;
+    write_two(err, fault.as_slice(), b"\n")
 }

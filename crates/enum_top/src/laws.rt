@@ -7,12 +7,20 @@ ghost use Rattle.enum_top.specs.Verdicts.Verdict.{refuses};
 ghost use Rattle.enum_top.specs.declared.cause.Cause.{Cause};
 
 use ddds_walk::{one_loop, one_report};
+use zone_db::{one_add_fault, one_zone, one_zone_fault};
+use zone_text::{breaks_once, says_once, says_or_breaks};
 
 /// Over told objects a request comes to one verdict at most.
 pub fn one_verdict()
     ensures { (told : Told) (words : List (List ℕ)) (request : Request) (one other : Verdict)
         → AreTold request told → Answers told words request one → Answers told words request other → one ≡ other }
 {
+    says_once();
+    breaks_once();
+    says_or_breaks();
+    one_zone();
+    one_zone_fault();
+    one_add_fault();
     one_report();
     one_loop();
 }

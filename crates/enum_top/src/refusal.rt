@@ -38,13 +38,13 @@ impl From<Cause> for Refusal {
 
 impl Refusal {
     /// Writes the line that tells it, until a write fails. Takes no memory.
-    pub fn tell<E: Sink>(self, words: &[String], err: &mut E) -> Result<(), Failed>
-        ensures { Takes (E.state err.old) (E.state err.new) (line_of (texts_of words.now) self) }
+    pub fn tell<E: Sink>(&self, words: &[String], err: &mut E) -> Result<(), Failed>
+        ensures { Takes (E.state err.old) (E.state err.new) (line_of (texts_of words.now) self.now) }
     {
         match self {
             Refusal::Usage => write_whole(err, b"enumd: usage\n"),
             Refusal::IllFormed(cause) => cause.tell(words, err),
-            Refusal::Outside(object) => write_whole(err, outside_bytes(object)),
+            Refusal::Outside(object) => write_whole(err, outside_bytes(*object)),
             Refusal::Memory => write_whole(err, b"enumd: memory\n"),
         }
     }

@@ -41,7 +41,8 @@ pub enum Status {
     Nothing,
     /// The words are no request.
     Usage,
-    /// The string, the wanted list, the apex or the number's domain is ill-formed, or a file is not there.
+    /// The string, the wanted list, the apex or the number's domain is ill-formed; or a file is not there, its text is
+    /// ill-formed, its records make no zone, or its zone does not go to those before it.
     IllFormed,
     /// The report was printed, and it is a loop.
     Loop,
@@ -49,12 +50,10 @@ pub enum Status {
     Outside(Object),
     /// Memory was wanting.
     Memory,
-    /// A file is there, and it is no plain text, or its apex is that of an earlier one.
-    Unbuilt,
 }
 
 impl Status {
-    /// The exit code: 0 to 9.
+    /// The exit code: 0 to 6.
     pub fn code(self) -> u8
         ensures { result ≡ code_of self }
     {
@@ -66,7 +65,6 @@ impl Status {
             Status::Loop => 4,
             Status::Outside(_) => 5,
             Status::Memory => 6,
-            Status::Unbuilt => 9,
         }
     }
 }
@@ -86,13 +84,13 @@ impl Ending {
 
 impl Refusal {
     /// The status that a refusal ends with.
-    pub fn status(self) -> Status
-        ensures { result ≡ ended_as self }
+    pub fn status(&self) -> Status
+        ensures { result ≡ ended_as self.now }
     {
         match self {
             Refusal::Usage => Status::Usage,
-            Refusal::IllFormed(cause) => cause.status(),
-            Refusal::Outside(object) => Status::Outside(object),
+            Refusal::IllFormed(_) => Status::IllFormed,
+            Refusal::Outside(object) => Status::Outside(*object),
             Refusal::Memory => Status::Memory,
         }
     }

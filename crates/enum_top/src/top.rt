@@ -5,7 +5,7 @@ ghost use Rattle.enum_base.specs.Writing.{Gains, Takes};
 ghost use Rattle.request_words.specs.Words.{IsRequest, Means, texts_of};
 ghost use Rattle.request_words.specs.declared.request.Request.{Request};
 ghost use Rattle.enum_top.specs.Answers.{Answers, AreTold, Breaks, ComesTo, IsText, Leaves, Need, Uses};
-ghost use Rattle.enum_top.specs.Endings.{IsCauses, IsPlain, cause_status, ended_as, status_of};
+ghost use Rattle.enum_top.specs.Endings.{IsPlain, ended_as, status_of};
 ghost use Rattle.enum_top.specs.FaultLines.{cause_line, line_of};
 ghost use Rattle.enum_top.specs.Running.{Does, EndsWith, Ends, Keeps, ReadsShelf, Runs};
 ghost use Rattle.enum_top.specs.Verdicts.{Verdict, told_by, whole};
@@ -35,14 +35,14 @@ pub fn run<S: Shelf, O: Sink, E: Sink>(
     // The words alone.
     ensures usage { (result ≡ Status.Usage) ↔ (¬ IsRequest (texts_of words.now)) }
     ensures early { (request : Request) (cause : Cause) → Means (texts_of words.now) request → Breaks (texts_of words.now) request cause
-        → (result ≡ cause_status cause) × Takes (E.state err.old) (E.state err.new) (cause_line (texts_of words.now) cause) }
+        → (result ≡ Status.IllFormed) × Takes (E.state err.old) (E.state err.new) (cause_line (texts_of words.now) cause) }
 
     // Only where: what was printed, or why not, is what the request comes to, whether the objects tell what they hold or not.
     ensures printed { (ending : Ending) → result ≡ status_of ending
         → (text : List ℕ) × ComesTo (told_by (S.state shelf.old)) (texts_of words.now) (prints ending text)
         × Gains (O.state out.old) (O.state out.new) text }
-    ensures ill_formed { IsCauses result
-        → (cause : Cause) × (result ≡ cause_status cause)
+    ensures ill_formed { result ≡ Status.IllFormed
+        → (cause : Cause)
         × ((front : List ℕ) × ComesTo (told_by (S.state shelf.old)) (texts_of words.now) (refuses front cause)
         × Gains (O.state out.old) (O.state out.new) front)
         × Takes (E.state err.old) (E.state err.new) (cause_line (texts_of words.now) cause) }

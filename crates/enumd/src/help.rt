@@ -29,12 +29,11 @@ Exit statuses:
   0  done: there is an end or more
   1  nothing: there is no end
   2  the words are no command
-  3  the number, the domain, the list or the apex is ill-formed, or a file is
-     not there
+  3  the number, the domain, the list or the apex is ill-formed; or a file is
+     not there, its text is ill-formed, or its records make no zone
   4  there is a loop
   5  reading a file or writing the output failed
-  6  memory was wanting
-  9  a file is there, and its form is not read yet
+  6  memory ran out
 ";
 
 /// The program's name and version.

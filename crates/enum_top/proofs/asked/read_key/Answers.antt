@@ -1,12 +1,10 @@
-use Rattle.std.proofs.Common.{refl}
-use Rattle.std.proofs.lemmas.Result.{err_from_is_err_and}
+use Rattle.std.proofs.Common.{◌∙◌, ap, refl, sym}
+use Rattle.enum_top.specs.Applications.{as_apex}
 use Rattle.enum_top.specs.Verdicts.Then.{goes, stops}
 use Rattle.enum_top.proofs.asked.read_key.Goals as goal
 
-pub returns-in_err-top : goal.returns-in_err-top
-returns-in_err-top c =
-    let p = err_from_is_err_and c.from_residual.result c.from_residual.ensures.1 in
-    rw (p.1, p.2) (stops _ c.in_err-top.ensures refl)
+pub returns-in-Ok : goal.returns-in-Ok
+returns-in-Ok c = goes c.in-Ok.top (ap as_apex (sym c.in-Ok.is ∙ c.read_apex.ensures)) c.key_under.ensures
 
-pub returns : goal.returns
-returns c = goes _ c.in_ok-top.ensures c.key_under.ensures
+pub returns-in-Err : goal.returns-in-Err
+returns-in-Err c = stops _ (ap as_apex (sym c.in-Err.is ∙ c.read_apex.ensures)) refl

@@ -1,6 +1,18 @@
 use Rattle.enum_top.proofs.OneAnswer.{one_text}
+use Rattle.enum_top.proofs.OneZones.{AreLaws}
 use Rattle.enum_top.proofs.RequestLaws.{one_answer}
 use Rattle.enum_top.proofs.laws.one_verdict.Goals as goal
 
 pub returns : goal.returns
-returns c = one_answer (one_text c.one_report.ensures c.one_loop.ensures)
+returns c =
+    let laws : AreLaws = record {
+      one_text = c.says_once.ensures;
+      one_break = c.breaks_once.ensures;
+      no_break = c.says_or_breaks.ensures;
+      one_zone = c.one_zone.ensures;
+      one_fault = c.one_zone_fault.ensures.one;
+      no_fault = c.one_zone_fault.ensures.none;
+      one_reason = c.one_add_fault.ensures.one;
+      no_reason = c.one_add_fault.ensures.none;
+    } in
+    one_answer laws (one_text c.one_report.ensures c.one_loop.ensures)

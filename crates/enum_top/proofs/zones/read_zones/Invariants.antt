@@ -1,4 +1,4 @@
-use Rattle.std.proofs.Common.{◌≡◌, length, drop}
+use Rattle.std.proofs.Common.{◌≡◌, drop}
 use Rattle.request_words.specs.Words.{texts_of}
 use Rattle.enum_top.proofs.FileLoops.{Leads}
 use Rattle.enum_top.proofs.zones.read_zones.Given as goal
@@ -6,8 +6,7 @@ use Rattle.enum_top.proofs.zones.read_zones.Given as goal
 abbrev pub invariant-loop-place : goal.invariant-loop-place
 invariant-loop-place g l =
     record {
-      leads : Leads (g.S.Shelf.state l.initial.shelf).files (texts_of l.words) l.places (drop l.place-index l.places) l.told.zones;
-      count : length l.told.zones ≡ l.place-index;
+      leads : Leads (g.S.Shelf.state l.initial.shelf).files (texts_of l.words) l.places (drop l.place-index l.places) l.zones;
       files : (g.S.Shelf.state l.shelf).files ≡ (g.S.Shelf.state l.initial.shelf).files;
       faults : (g.S.Shelf.state l.shelf).faults ≡ (g.S.Shelf.state l.initial.shelf).faults;
     }

@@ -3,9 +3,6 @@ use Rattle.enum_top.proofs.cause.Cause.tell.Goals as goal
 pub returns-in-Number : goal.returns-in-Number
 returns-in-Number g c = rw (c.in-Number.is, ← c.words.ensures, ← c.as_slice.ensures.value) c.write_three.ensures.takes
 
-pub returns-in-Domain : goal.returns-in-Domain
-returns-in-Domain g c = rw (c.in-Domain.is, ← c.words-in-Domain.ensures, ← c.as_slice-in-Domain.ensures.value) c.write_three-in-Domain.ensures.takes
-
 pub returns-in-Want : goal.returns-in-Want
 returns-in-Want g c = rw (c.in-Want.is, ← c.words-in-Want.ensures, ← c.as_slice-in-Want.ensures.value) c.write_three-in-Want.ensures.takes
 
@@ -18,5 +15,14 @@ returns-in-Key g c = rw c.in-Key.is c.write_whole.ensures.takes
 pub returns-in-Absent : goal.returns-in-Absent
 returns-in-Absent g c = rw (c.in-Absent.is, ← c.text_at.ensures, ← c.as_bytes.ensures.value) c.write_three-in-Absent.ensures.takes
 
-pub returns-in-Unbuilt : goal.returns-in-Unbuilt
-returns-in-Unbuilt g c = rw c.in-Unbuilt.is c.write_whole-in-Unbuilt.ensures.takes
+pub returns-in-Domain : goal.returns-in-Domain
+returns-in-Domain g c = rw (c.in-Domain.is, ← c.words-in-Domain.ensures, ← c.as_slice-in-Domain.ensures.value) c.write_three-in-Domain.ensures.takes
+
+pub returns-in-Text : goal.returns-in-Text
+returns-in-Text g c = rw (c.in-Text.is, ← c.words-in-Text.ensures, ← c.text_at-in-Text.ensures) c.tell_file.ensures
+
+pub returns-in-Zone : goal.returns-in-Zone
+returns-in-Zone g c = rw (c.in-Zone.is, ← c.words-in-Zone.ensures, ← c.text_at-in-Zone.ensures) c.tell_file-in-Zone.ensures
+
+pub returns-in-Set : goal.returns-in-Set
+returns-in-Set g c = rw (c.in-Set.is, ← c.words-in-Set.ensures, ← c.text_at-in-Set.ensures) c.tell_file-in-Set.ensures

@@ -11,12 +11,12 @@ returns-in-Err-clause-does g c = ill_formed (stops _ c.in-Err.ensures refl)
 pub returns-in-Err-clause-early : goal.returns-in-Err-clause-early
 returns-in-Err-clause-early g c = λ cause asks. ap (λ x. Err (IllFormed x)) (one_cause _ _ _ _ _ _ cause c.in-Err.ensures asks)
 
-pub returns-in_err-told-clause-does : goal.returns-in_err-told-clause-does
-returns-in_err-told-clause-does g c =
-    passed c.from_residual.ensures.1 (stopped_by (λ object used. used) (λ cause stopped. goes _ c.in-Ok.ensures (stops cause stopped refl)) c.in_err-told.ensures.does)
+pub returns-in_err-zones-clause-does : goal.returns-in_err-zones-clause-does
+returns-in_err-zones-clause-does g c =
+    passed c.from_residual.ensures.1 (stopped_by (λ object used. used) (λ cause stopped. goes _ c.in-Ok.ensures (stops cause stopped refl)) c.in_err-zones.ensures.does)
 
-pub returns-in_err-told-clause-early : goal.returns-in_err-told-clause-early
-returns-in_err-told-clause-early g c = λ cause asks. no_cause _ _ _ _ _ _ cause c.in-Ok.ensures asks
+pub returns-in_err-zones-clause-early : goal.returns-in_err-zones-clause-early
+returns-in_err-zones-clause-early g c = λ cause asks. no_cause _ _ _ _ _ _ cause c.in-Ok.ensures asks
 
 pub returns-in_err-report-clause-early : goal.returns-in_err-report-clause-early
 returns-in_err-report-clause-early g c = λ cause asks. no_cause _ _ _ _ _ _ cause c.in-Ok.ensures asks
@@ -29,4 +29,4 @@ returns-clause-early g c = λ cause asks. no_cause _ _ _ _ _ _ cause c.in-Ok.ens
 
 pub returns-clause-does : goal.returns-clause-does
 returns-clause-does g c =
-    done (goes _ c.in-Ok.ensures (goes _ (got c.in_ok-told.ensures.does) (c.in_ok-report.report, c.in_ok-report.ensures, λ i. Ok (record { ending = c.ending_of.ensures i; text = c.in_ok-text.ensures i }))))
+    done (goes _ c.in-Ok.ensures (goes _ (got c.in_ok-zones.ensures.does) (c.in_ok-report.report, c.in_ok-report.ensures, λ i. Ok (record { ending = c.ending_of.ensures i; text = c.in_ok-text.ensures i }))))
