@@ -81,10 +81,10 @@ end_left old (Some rest) bytes n parts none ends =
 pub broken_left : StaysBroken → (old left : Option (List ℕ)) (place : ℕ) (bytes piece : List ℕ) (origin : Labels) (n : ℕ) (fault : TextFault) → old ≡ option_map (λ rest. bytes ++ rest) left → AreFirst n piece left → origin ≡ [] → BreaksSoFar (bytes ++ piece) origin fault.line fault.why → LeftText old place (Err (Text place fault))
 broken_left law old None place bytes piece origin n fault parts first root broken =
     goes ((bytes ++ piece) ++ []) (subst (λ o. LeftBytes o (Ok ((bytes ++ piece) ++ []))) (sym parts) ((bytes ++ piece) ++ [], refl))
-      (inr (fault, subst (λ (o : Labels). ZoneBreaks ((bytes ++ piece) ++ []) o fault.line fault.why) root (law (bytes ++ piece) [] origin fault.line fault.why broken), refl))
+    (inr (fault, subst (λ (o : Labels). ZoneBreaks ((bytes ++ piece) ++ []) o fault.line fault.why) root (law (bytes ++ piece) [] origin fault.line fault.why broken), refl))
 broken_left law old (Some rest) place bytes piece origin n fault parts first root broken =
     goes ((bytes ++ piece) ++ drop n rest) (subst (λ o. LeftBytes o (Ok ((bytes ++ piece) ++ drop n rest))) (sym (parts ∙ ap Some (front_and_rest bytes piece rest n first))) refl)
-      (inr (fault, subst (λ (o : Labels). ZoneBreaks ((bytes ++ piece) ++ drop n rest) o fault.line fault.why) root (law (bytes ++ piece) (drop n rest) origin fault.line fault.why broken), refl))
+    (inr (fault, subst (λ (o : Labels). ZoneBreaks ((bytes ++ piece) ++ drop n rest) o fault.line fault.why) root (law (bytes ++ piece) (drop n rest) origin fault.line fault.why broken), refl))
 
 -- a broken text stops the work
 pub text_refused : {A : Type 0} {Used : Object → Type 0} {One : Result A Cause → Type 0} (place : ℕ) (fault : TextFault) (why : Refusal) → Refuses place fault why → (fault.why ≢ text.Memory → One (Err (Text place fault))) → Does Used One (Err why)

@@ -1,5 +1,5 @@
 use Rattle.std.proofs.Common.{◌≡◌, ◌∙◌, ℕ, ◌-◌, ◌<◌, ◌≤◌, List, [], ◌∷◌, ◌++◌, length, take, drop, map, true, Option, None, Result, Ok, Err, refl, sym, ap, inl, inr, subst, arith, append_assoc, length-append}
-use Rattle.std.specs.Prelude.{◌==◌, min}
+use Rattle.std.specs.Prelude.{◌==◌, ◌&&◌, min}
 use Rattle.std.specs.List.{list_all}
 use Rattle.std.proofs.lemmas.List.{append-nil, drop-append-le, length-take, length-drop, take_all, take-append-drop}
 use Rattle.std.proofs.Math.Seq.{drop-append_seam, take-append_seam}
@@ -116,15 +116,17 @@ are-said [] plain = tt
 are-said (one ∷ records) plain =
     let parts = and_parts (is_plain one) (list_all is_plain records) plain in
     let both = and_parts (one.kind == kind_of one.content && one.class == internet) (is_whole one.content) parts.0 in
-    let first = and_parts (one.kind == kind_of one.content) (one.class == internet) both.0 in
-    (record {
-      owner = refl;
-      kind = eqb-true one.kind (kind_of one.content) first.0;
-      class = eqb-true one.class internet first.1;
-      ttl = refl;
-      content = refl;
-      whole = both.1;
-    }, are-said records parts.1)
+    let first = and_parts (one.kind == kind_of one.content) (one.class == internet) both.0 in (
+      record {
+        owner = refl;
+        kind = eqb-true one.kind (kind_of one.content) first.0;
+        class = eqb-true one.class internet first.1;
+        ttl = refl;
+        content = refl;
+        whole = both.1;
+      },
+      are-said records parts.1,
+    )
 
 -- a text that was read says its records
 pub text_said : (text : List ℕ) (origin : Labels) (progress : Progress) → run (unread origin) (entries_of text) ≡ Ok (seen progress) → list_all is_plain progress.records ≡ true → ZoneSays text origin progress.records
