@@ -1,11 +1,12 @@
 //! Cases of objects in memory.
 
 use enum_base::{
-    Failed, MemShelf, MemSink, Ranks, Shelf, Sink, load, write_three, write_two, write_whole,
+    Bytes, Failed, MemShelf, MemSink, MemSource, Ranks, Shelf, Sink, Source, load, write_three,
+    write_two, write_whole,
 };
 use std::alloc::{AllocError, Global};
 
-/// `FAILING.. | put NAME BYTES | front NAME | load NAME MOST`: a front is four bytes at most.
+/// `FAILING.. | put NAME BYTES | front NAME`: a front is four bytes at most.
 pub fn shelf(alloc: Global, rest: &str) -> Result<String, AllocError> {
     let (failing, steps) = rest.split_once('|').unwrap_or((rest, ""));
     let mut shelf = MemShelf::new(alloc, ranks(alloc, failing)?);
@@ -15,8 +16,27 @@ pub fn shelf(alloc: Global, rest: &str) -> Result<String, AllocError> {
         let (name, more) = split(rest);
         match verb {
             "put" => put(&mut shelf, name, more)?,
-            "front" => told.push_str(front(alloc, &mut shelf, name)?.as_str())?,
-            _ => told.push_str(loaded(alloc, &mut shelf, name, more)?.as_str())?,
+            _ => told.push_str(front(alloc, &mut shelf, name)?.as_str())?,
+        }
+    }
+    Ok(told)
+}
+
+/// `FAILING.. | BYTES | front | load MOST`: a front is four bytes at most, and a load reads to the end.
+pub fn source(alloc: Global, rest: &str) -> Result<String, AllocError> {
+    let (failing, rest) = rest.split_once('|').unwrap_or((rest, ""));
+    let (bytes, steps) = rest.split_once('|').unwrap_or((rest, ""));
+    let mut input = Bytes::new(alloc);
+    input
+        .push_slice(bytes.trim().as_bytes())
+        .map_err(|_| AllocError)?;
+    let mut source = MemSource::new(alloc, input, ranks(alloc, failing)?);
+    let mut told = String::new(alloc);
+    for step in steps.split('|') {
+        let (verb, most) = split(step);
+        match verb {
+            "front" => told.push_str(read_some(alloc, &mut source)?.as_str())?,
+            _ => told.push_str(loaded(alloc, &mut source, most)?.as_str())?,
         }
     }
     Ok(told)
@@ -70,14 +90,14 @@ fn read_front<S: Shelf>(shelf: &mut S, name: &str) -> Result<Option<usize>, Fail
     Ok(Some(shelf.read(&mut buf)?))
 }
 
-fn loaded<S: Shelf>(
-    alloc: Global,
-    shelf: &mut S,
-    name: &str,
-    most: &str,
-) -> Result<String, AllocError> {
+fn read_some<I: Source>(alloc: Global, input: &mut I) -> Result<String, AllocError> {
+    let mut buf = [0; 4];
+    format!(in alloc; "{:?}; ", input.read(&mut buf))
+}
+
+fn loaded<I: Source>(alloc: Global, input: &mut I, most: &str) -> Result<String, AllocError> {
     let most = most.parse::<usize>().unwrap_or(0);
-    match load(alloc, name, most, shelf) {
+    match load(alloc, most, input) {
         Ok(bytes) => format!(in alloc; "{} bytes; ", bytes.as_slice().len()),
         Err(fault) => format!(in alloc; "{fault:?}; "),
     }

@@ -1,6 +1,7 @@
 mod DecimalLemmas
-mod Loaded
+pub mod Loaded
 pub mod OutsideLemmas
 pub mod PaddingLemmas
 mod ShelfLemmas
+pub mod StageLaws
 pub mod Written

@@ -5,5 +5,6 @@ pub mod Loading
 pub mod Memory
 pub mod Outside
 pub mod Padding
+pub mod Stages
 pub mod Words
 pub mod Writing

@@ -1,4 +1,4 @@
--- What is read of a file (this project's own).
+-- What is read of a file or an input (this project's own).
 use Rattle.std.specs.Prelude.{◌≡◌, ℕ, ◌≤◌, List, Option, Some}
 use Rattle.enum_base.specs.Outside.{File, file_of, after}
 

@@ -1,10 +1,17 @@
--- Shelves and sinks in memory, which tell all that they hold and fail at listed calls (this project's own).
+-- Shelves, sources and sinks in memory, which tell all that they hold and fail at listed calls (this project's own).
 use Rattle.std.specs.Prelude.{ℕ, ◌<◌, ◌≤◌, List, [], length, slice_get, unwrap_or, option_map, Option, Some, None, ⊤}
 use Rattle.enum_base.specs.Outside.{File}
 
 -- the files, the bytes left of the fetched one, the numbers of the calls that fail, and how many calls were made and failed
 pub record MemoryShelf : Type 0 where
   pub files : List File
+  pub left : List ℕ
+  pub failing : List ℕ
+  pub calls : ℕ
+  pub faults : ℕ
+
+-- the bytes left, the numbers of the calls that fail, and how many calls were made and failed
+pub record MemorySource : Type 0 where
   pub left : List ℕ
   pub failing : List ℕ
   pub calls : ℕ

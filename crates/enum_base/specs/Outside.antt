@@ -1,4 +1,4 @@
--- What shelves and sinks tell of their bytes (this project's own). What is not told is `None`.
+-- What shelves, sources and sinks tell of their bytes (this project's own). What is not told is `None`.
 use Rattle.std.specs.Prelude.{◌≡◌, ℕ, List, [], ◌++◌, take, drop, find, bytes_eq, unwrap_or, IsSome, IsTrue, ◌↔◌, Bool, Option, Some, None, option_map, ⊤}
 
 -- a file as a shelf tells it: its name and its bytes
@@ -40,6 +40,11 @@ with_more held more = option_map (λ bytes. bytes ++ more) held
 -- what a shelf tells: the files and the bytes left of the fetched one, and how many calls failed
 pub record ShelfState : Type 0 where
   pub files : Option (List File)
+  pub left : Option (List ℕ)
+  pub faults : ℕ
+
+-- what a source tells: the bytes left, and how many calls failed
+pub record SourceState : Type 0 where
   pub left : Option (List ℕ)
   pub faults : ℕ
 

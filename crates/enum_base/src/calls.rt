@@ -1,5 +1,5 @@
-//! Counts of calls, for the objects in memory.
-ghost use Rattle.std.specs.Prelude.{◌≡◌, ◌↔◌, Contains, IsErr, IsTrue, OnErr, ◌≤◌};
+//! Counts of calls and copies of bytes, for the objects in memory.
+ghost use Rattle.std.specs.Prelude.{◌≡◌, ◌↔◌, Contains, IsErr, IsTrue, OnErr, ◌≤◌, min, take, length};
 ghost use Rattle.enum_base.specs.Causes.{HasCause, one_more};
 
 use crate::{Failed, Ranks};
@@ -67,4 +67,14 @@ fn is_listed(failing: &Ranks, call: u64) -> bool
         .as_slice()
         .iter()
         .any(|rank| u64::from(*rank) == call)
+}
+
+/// Copies as many bytes as there are and have room, and says how many.
+pub(crate) fn copy_front(from: &[u8], to: &mut [u8]) -> usize
+    ensures count { result ≡ min (length to.new) (length from.now) }
+    ensures copied { take result to.new ≡ take result from.now }
+{
+    let count = to.len().min(from.len());
+    to[..count].copy_from_slice(&from[..count]);
+    count
 }

@@ -4,7 +4,7 @@ ghost use Rattle.enum_base.specs.Causes.{HasCause, one_more};
 ghost use Rattle.enum_base.specs.Outside.{Finds, Opens, AreFirst, EndsAtEnd, after, file_of};
 ghost use Rattle.enum_base.specs.Memory.{chosen_bytes, IsPlace};
 
-use crate::calls::Calls;
+use crate::calls::{Calls, copy_front};
 use crate::{Bytes, Failed, MemoryFault, Ranks, Shelf};
 use std::alloc::Global;
 use std::marker::Model;
@@ -134,14 +134,4 @@ fn bytes_of(files: &[(Bytes, Bytes)], chosen: Option<usize>) -> &[u8]
         Some(place) => files[place].1.as_slice(),
         None => &[],
     }
-}
-
-// Copies as many bytes as there are and have room, and says how many.
-fn copy_front(from: &[u8], to: &mut [u8]) -> usize
-    ensures count { result ≡ min (length to.new) (length from.now) }
-    ensures copied { take result to.new ≡ take result from.now }
-{
-    let count = to.len().min(from.len());
-    to[..count].copy_from_slice(&from[..count]);
-    count
 }

@@ -1,7 +1,7 @@
-//! Where files come from and where output goes.
+//! Where files and input come from and where output goes.
 ghost use Rattle.std.specs.Prelude.{◌≡◌, ◌<◌, ◌≤◌, take, length, IfOk, OnErr};
 ghost use Rattle.enum_base.specs.Causes.{HasCause};
-ghost use Rattle.enum_base.specs.Outside.{ShelfState, SinkState, Finds, Opens, AreFirst, EndsAtEnd, after, with_more};
+ghost use Rattle.enum_base.specs.Outside.{ShelfState, SinkState, SourceState, Finds, Opens, AreFirst, EndsAtEnd, after, with_more};
 
 use crate::Failed;
 
@@ -21,6 +21,20 @@ pub trait Shelf {
     /// `buf` is not empty.
     fn read(&mut self, buf: &mut [u8]) -> Result<usize, Failed>
         ensures files { (state self.new).files ≡ (state self.old).files }
+        ensures bound { IfOk result (λ n. n ≤ length buf.new) }
+        ensures given { IfOk result (λ n. AreFirst n (take n buf.new) (state self.old).left) }
+        ensures left { IfOk result (λ n. (state self.new).left ≡ after n (state self.old).left) }
+        ensures ends { IfOk result (λ n. 0 < length buf.new → EndsAtEnd n (state self.old).left) }
+        ensures cause { HasCause (state self.old).faults (state self.new).faults result };
+}
+
+/// Where input is read from, from its start to its end.
+pub trait Source {
+    /// What it tells.
+    ghost state: { Self → SourceState };
+
+    /// Reads some bytes into the front of `buf`, and says how many: 0 is the end, where `buf` is not empty.
+    fn read(&mut self, buf: &mut [u8]) -> Result<usize, Failed>
         ensures bound { IfOk result (λ n. n ≤ length buf.new) }
         ensures given { IfOk result (λ n. AreFirst n (take n buf.new) (state self.old).left) }
         ensures left { IfOk result (λ n. (state self.new).left ≡ after n (state self.old).left) }
