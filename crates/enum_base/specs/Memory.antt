@@ -1,5 +1,6 @@
 -- Shelves, sources and sinks in memory, which tell all that they hold and fail at listed calls (this project's own).
-use Rattle.std.specs.Prelude.{ℕ, ◌<◌, ◌≤◌, List, [], length, slice_get, unwrap_or, option_map, Option, Some, None, ⊤}
+use Rattle.std.specs.Prelude.{◌≡◌, ◌↔◌, ℕ, ◌<◌, ◌≤◌, min, List, [], length, Contains, slice_get, unwrap_or, option_map, Option, Some, None, ⊤, Result, IsErr, IfOk, OnErr}
+use Rattle.enum_base.specs.Causes.{one_more}
 use Rattle.enum_base.specs.Outside.{File}
 
 -- the files, the bytes left of the fetched one, the numbers of the calls that fail, and how many calls were made and failed
@@ -41,3 +42,11 @@ IsPlace files (Some place) = place < length files
 pub record IsOpenAt (files : List File) (chosen : Option ℕ) (at : ℕ) : Type 0 where
   pub place : IsPlace files chosen
   pub within : at ≤ length (chosen_bytes files chosen)
+
+-- a read fails exactly at the listed calls, is counted, and gives as much of what is left as there is room for
+pub record ReadsListed {E : Type 0} (failing : List ℕ) (calls calls' faults faults' : ℕ) (left left' : List ℕ) (room : ℕ) (result : Result ℕ E) : Type 0 where
+  pub listed : IsErr result ↔ Contains failing (one_more calls)
+  pub counted : calls' ≡ one_more calls
+  pub raised : OnErr result (faults' ≡ one_more faults)
+  pub kept : OnErr result (left' ≡ left)
+  pub amount : IfOk result (λ n. n ≡ min room (length left))

@@ -2,7 +2,7 @@
 ghost use Rattle.std.specs.Prelude.{◌≡◌, ◌↔◌, ◌<◌, ◌≤◌, min, [], ◌∷◌, ◌++◌, take, drop, length, position, bytes_eq, Contains, Option, Some, IsSome, unwrap_or, IsErr, IfOk, OnOk, OnErr};
 ghost use Rattle.enum_base.specs.Causes.{HasCause, one_more};
 ghost use Rattle.enum_base.specs.Outside.{Finds, Opens, AreFirst, EndsAtEnd, after, file_of};
-ghost use Rattle.enum_base.specs.Memory.{chosen_bytes, IsPlace};
+ghost use Rattle.enum_base.specs.Memory.{ReadsListed, chosen_bytes, IsPlace};
 
 use crate::calls::{Calls, copy_front};
 use crate::{Bytes, Failed, MemoryFault, Ranks, Shelf};
@@ -94,13 +94,8 @@ impl Shelf for MemShelf {
         ensures left { IfOk result (λ n. Some self.new.left ≡ after n (Some self.old.left)) }
         ensures ends { IfOk result (λ n. 0 < length buf.new → EndsAtEnd n (Some self.old.left)) }
         ensures cause { HasCause self.old.faults self.new.faults result }
-        // It fails exactly at the listed calls, is counted, and gives as much as there is room for.
-        ensures listed { IsErr result ↔ Contains self.old.failing (one_more self.old.calls) }
-        ensures counted { self.new.calls ≡ one_more self.old.calls }
+        ensures reads { ReadsListed self.old.failing self.old.calls self.new.calls self.old.faults self.new.faults self.old.left self.new.left (length buf.new) result }
         ensures failing { self.new.failing ≡ self.old.failing }
-        ensures raised { OnErr result (self.new.faults ≡ one_more self.old.faults) }
-        ensures kept { OnErr result (self.new.left ≡ self.old.left) }
-        ensures amount { IfOk result (λ n. n ≡ min (length buf.new) (length self.old.left)) }
     {
         self.calls.begin()?;
         let bytes = bytes_of(&self.files, self.chosen);

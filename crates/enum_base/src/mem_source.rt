@@ -1,6 +1,7 @@
 //! A source in memory.
-ghost use Rattle.std.specs.Prelude.{◌≡◌, ◌↔◌, ◌<◌, ◌≤◌, min, take, length, Contains, Some, IsErr, IfOk, OnErr};
-ghost use Rattle.enum_base.specs.Causes.{HasCause, one_more};
+ghost use Rattle.std.specs.Prelude.{◌≡◌, ◌<◌, ◌≤◌, take, length, Some, IfOk};
+ghost use Rattle.enum_base.specs.Causes.{HasCause};
+ghost use Rattle.enum_base.specs.Memory.{ReadsListed};
 ghost use Rattle.enum_base.specs.Outside.{AreFirst, EndsAtEnd, after};
 
 use crate::calls::{Calls, copy_front};
@@ -55,13 +56,8 @@ impl Source for MemSource {
         ensures left { IfOk result (λ n. Some self.new.left ≡ after n (Some self.old.left)) }
         ensures ends { IfOk result (λ n. 0 < length buf.new → EndsAtEnd n (Some self.old.left)) }
         ensures cause { HasCause self.old.faults self.new.faults result }
-        // It fails exactly at the listed calls, is counted, and gives as much as there is room for.
-        ensures listed { IsErr result ↔ Contains self.old.failing (one_more self.old.calls) }
-        ensures counted { self.new.calls ≡ one_more self.old.calls }
+        ensures reads { ReadsListed self.old.failing self.old.calls self.new.calls self.old.faults self.new.faults self.old.left self.new.left (length buf.new) result }
         ensures failing { self.new.failing ≡ self.old.failing }
-        ensures raised { OnErr result (self.new.faults ≡ one_more self.old.faults) }
-        ensures kept { OnErr result (self.new.left ≡ self.old.left) }
-        ensures amount { IfOk result (λ n. n ≡ min (length buf.new) (length self.old.left)) }
     {
         self.calls.begin()?;
         let count = copy_front(&self.bytes.as_slice()[self.at..], buf);
