@@ -2,9 +2,9 @@
 //! worked out by hand.
 //!
 //! `number TEXT`: read_u16 and read_u32. `fold B`: fold_byte. `same ONE OTHER`: same_folded. `text N`: from_bytes of N
-//! bytes. `list N..`: push and pop. `buffer TEXT`: push, push_slice. `shelf FAILING.. | STEP | ..`, `source FAILING..
-//! | BYTES | STEP | ..` and `sink MOST FAILING.. | STEP | ..`: objects in memory, with the calls that are to fail; each step
-//! prints its answer.
+//! bytes. `list N..`: push and pop. `front N TEXT`: truncate. `buffer TEXT`: push, push_slice. `shelf FAILING.. | STEP |
+//! ..`, `source FAILING.. | BYTES | STEP | ..` and `sink MOST FAILING.. | STEP | ..`: objects in memory, with the calls that
+//! are to fail; each step prints its answer.
 #![tactic(auto)]
 
 mod objects;
@@ -34,6 +34,7 @@ fn told_of(alloc: Global, line: &str) -> Result<String, AllocError> {
         "same" => values::same(alloc, rest),
         "text" => values::text(alloc, rest),
         "list" => values::list(alloc, rest),
+        "front" => values::front(alloc, rest),
         "buffer" => values::buffer(alloc, rest),
         "shelf" => objects::shelf(alloc, rest),
         "source" => objects::source(alloc, rest),

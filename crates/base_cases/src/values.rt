@@ -48,6 +48,15 @@ pub fn list(alloc: Global, rest: &str) -> Result<String, AllocError> {
     format!(in alloc; "{:?} {last:?}", numbers.as_slice())
 }
 
+// The first so many bytes of a text.
+pub fn front(alloc: Global, rest: &str) -> Result<String, AllocError> {
+    let (len, text) = rest.split_once(' ').unwrap_or((rest, ""));
+    let mut bytes = Bytes::new(alloc);
+    bytes.push_slice(text.as_bytes()).map_err(|_| AllocError)?;
+    bytes.truncate(len.parse::<usize>().unwrap_or(0));
+    format!(in alloc; "{:?}", bytes.as_slice())
+}
+
 // A buffer of four bytes, filled while there is room.
 pub fn buffer(alloc: Global, rest: &str) -> Result<String, AllocError> {
     let mut buffer = Buffer::<4>::new();

@@ -1,5 +1,5 @@
 //! Lists of bytes.
-ghost use Rattle.std.specs.Prelude.{◌≡◌, [], ◌++◌, OnOk, OnErr};
+ghost use Rattle.std.specs.Prelude.{◌≡◌, [], ◌++◌, take, OnOk, OnErr};
 
 use crate::MemoryFault;
 use std::alloc::{Allocator, Global};
@@ -43,5 +43,12 @@ impl<A: Allocator> Bytes<A> {
     {
         self.items.extend_from_slice(bytes)?;
         Ok(())
+    }
+
+    /// Keeps the first `len` bytes; where there are no more than these, nothing changes.
+    pub fn truncate(&mut self, len: usize)
+        ensures { self.new ≡ take len self.old }
+    {
+        self.items.truncate(len);
     }
 }
