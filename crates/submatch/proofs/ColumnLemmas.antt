@@ -3,7 +3,7 @@ use Rattle.std.proofs.Common.{◌≡◌, ℕ, ◌+◌, ◌<◌, ◌≤◌, ◌�
 use Rattle.std.proofs.Math.ListN.{get_or-append}
 use Rattle.std.proofs.Math.Seq.{get_or-append_seam}
 use Rattle.std.proofs.lemmas.Option.{slice_get_within, slice_get-get_or, get_or_from_slice_get}
-use Rattle.submatch.specs.Rows.{Row, Has, AddsPlaces, AreEnds, Leads, IsColumn, IsAllowed, StopsOrGoes}
+use Rattle.submatch.specs.Rows.{Row, Has, AddsPlaces, AreEnds, Leads, LeadsFrom, IsColumn, IsAllowed, StopsOrGoes}
 
 pub renamed_ends : (P Q : ℕ → Type 0) (row : Row) → ((j : ℕ) → P j → Q j) → ((j : ℕ) → Q j → P j) → AreEnds P row → AreEnds Q row
 renamed_ends P Q row to back ends = record { each = λ j h. to j (ends.each j h); all = λ j h. ends.all j (back j h) }
@@ -28,6 +28,40 @@ pub no_row_read : (rows : List Row) (i : ℕ) (row : Row) → length rows ≤ i 
 no_row_read rows i row past ends = record {
   each = λ j h. absurd (ends.each j h);
   all = λ j h. let inside : i < length rows = leads_inside rows i j h in absurd (omega arith);
+}
+
+pub renamed_adds : (P Q : ℕ → Type 0) (old new : Row) → ((j : ℕ) → P j → Q j) → ((j : ℕ) → Q j → P j) → AddsPlaces P old new → AddsPlaces Q old new
+renamed_adds P Q old new to back adds = record {
+  each = λ j h. elim (adds.each j h) [
+    | inl before ↦ inl before
+    | inr more ↦ inr (to j more)
+  ];
+  kept = adds.kept;
+  added = λ j h. adds.added j (back j h);
+}
+
+-- a row that is joined to another
+pub row_joined : (rows : List Row) (i : ℕ) (next d old new : Row) → i < length rows → next ≡ get_or rows i d → AddsPlaces (Has next) old new →
+    AddsPlaces (Leads rows i) old new
+row_joined rows i next d old new inside e adds =
+    let read : AreEnds (Leads rows i) next = row_read rows i next d inside e in
+    renamed_adds (Has next) (Leads rows i) old new read.each read.all adds
+
+pub no_row_joined : (rows : List Row) (i : ℕ) (row : Row) → length rows ≤ i → AddsPlaces (Leads rows i) row row
+no_row_joined rows i row past = record {
+  each = λ j h. inl h;
+  kept = λ j h. h;
+  added = λ j h. let inside : i < length rows = leads_inside rows i j h in absurd (omega arith);
+}
+
+pub joined_where : (holds : Bool) (P : ℕ → Type 0) (old new : Row) → IsTrue holds → AddsPlaces P old new → AddsPlaces (λ j. IsTrue holds × P j) old new
+joined_where holds P old new h adds = renamed_adds P (λ j. IsTrue holds × P j) old new (λ j p. (h, p)) (λ j p. p.1) adds
+
+pub not_joined : (holds : Bool) (P : ℕ → Type 0) (row : Row) → (IsTrue holds → ⊥) → AddsPlaces (λ j. IsTrue holds × P j) row row
+not_joined holds P row not = record {
+  each = λ j h. inl h;
+  kept = λ j h. h;
+  added = λ j h. absurd (not h.0);
 }
 
 -- a row added after the others
@@ -111,61 +145,36 @@ dead_column n P rows e never = subst (IsColumn n P) (sym e) (record {
   all = λ i j within h. absurd (never i j within h);
 })
 
--- the places after those of one row, gone over up to place n
-pub record IsThroughBelow (first : Row) (rest : List Row) (empties : Bool) (from n j : ℕ) : Type 0 where
-  pub at : ℕ
-  pub below : at < n
-  pub there : Has first at
-  pub allowed : IsAllowed empties from at
-  pub others : Leads rest at j
-
--- what a row has while the places are gone over
-pub record IsGone (stops empties : Bool) (first : Row) (rest : List Row) (from n : ℕ) (row : Row) : Type 0 where
-  pub each : (j : ℕ) → Has row j → (IsTrue stops × (from ≡ j)) ⊎ IsThroughBelow first rest empties from n j
-  pub stop : (j : ℕ) → IsTrue stops → from ≡ j → Has row j
-  pub all : (j : ℕ) → IsThroughBelow first rest empties from n j → Has row j
-
-module _ (stops empties : Bool) (first : Row) (rest : List Row) (from : ℕ) where
-  pub gone_none : (row : Row) → AreEnds (λ j. IsTrue stops × (from ≡ j)) row → ((at : ℕ) → Has first at → from ≤ at) →
-      IsGone stops empties first rest from from row
-  gone_none row ends forward = record {
-    each = λ j h. inl (ends.each j h);
-    stop = λ j s e. ends.all j (s, e);
-    all = λ j t. let a : from ≤ t.at = forward t.at t.there in let b : t.at < from = t.below in absurd (omega arith);
-  }
-
-  pub gone_next : (n : ℕ) (row next new : Row) → AreEnds (λ j. Has first n × IsAllowed empties from n × Leads rest n j) next →
-      AddsPlaces (Has next) row new → IsGone stops empties first rest from n row → IsGone stops empties first rest from (n + 1) new
-  gone_next n row next new ends adds so_far = record {
-    each = λ j h. elim (adds.each j h) [
-      | inl old ↦ elim (so_far.each j old) [
-        | inl stop ↦ inl stop
-        | inr t ↦ inr (record { at = t.at; below = omega (arith, t.below); there = t.there; allowed = t.allowed; others = t.others })
-      ]
-      | inr here ↦ let e = ends.each j here in
-          inr (record { at = n; below = omega arith; there = e.0; allowed = e.1; others = e.2 })
-    ];
-    stop = λ j s e. adds.kept j (so_far.stop j s e);
-    all = λ j t. elim (below_or_at t.at n t.below) [
-      | inl less ↦ adds.kept j (so_far.all j (record { at = t.at; below = less; there = t.there; allowed = t.allowed; others = t.others }))
-      | inr same ↦ adds.added j (ends.all j (
-        subst (λ x. Has first x) same t.there,
+-- from a place: where it stops, and the rows of that place and of later ones
+pub row_gone : (stops empties : Bool) (part rest : List Row) (from : ℕ) (first one here new : Row) → AreEnds (Leads part from) first →
+    ((at : ℕ) → Has first at → from ≤ at) → AreEnds (λ j. IsTrue stops × (from ≡ j)) one →
+    (next : Row) → AreEnds (λ j. Has first from × IsAllowed empties from from × Leads rest from j) next →
+    AddsPlaces (Has next) one here → AddsPlaces (LeadsFrom rest first (from + 1)) here new → AreEnds (StopsOrGoes stops empties part rest from) new
+row_gone stops empties part rest from first one here new read forward ends next at_once adds later = record {
+  each = λ j h. elim (later.each j h) [
+    | inr far ↦ inr (record {
+      at = far.at;
+      leads = read.each far.at far.there;
+      allowed = λ e. let after : from + 1 ≤ far.at = far.later in absurd (omega arith);
+      others = far.leads;
+    })
+    | inl near ↦ elim (adds.each j near) [
+      | inl stop ↦ inl (ends.each j stop)
+      | inr empty ↦ let e = at_once.each j empty in inr (record { at = from; leads = read.each from e.0; allowed = e.1; others = e.2 })
+    ]
+  ];
+  all = λ j h. elim h [
+    | inl stop ↦ later.kept j (adds.kept j (ends.all j stop))
+    | inr t ↦ let there : Has first t.at = read.all t.at t.leads in elim (here_or_later from t.at (forward t.at there)) [
+      | inl same ↦ later.kept j (adds.added j (at_once.all j (
+        subst (λ x. Has first x) same there,
         subst (λ x. IsAllowed empties from x) same t.allowed,
         subst (λ x. Leads rest x j) same t.others,
-      ))
-    ];
-  }
-
-  pub gone_all : (part : List Row) (n : ℕ) (row : Row) → AreEnds (Leads part from) first → ((at : ℕ) → Has first at → at < n) →
-      IsGone stops empties first rest from n row → AreEnds (StopsOrGoes stops empties part rest from) row
-  gone_all part n row read within gone = record {
-    each = λ j h. elim (gone.each j h) [
-      | inl stop ↦ inl stop
-      | inr t ↦ inr (record { at = t.at; leads = read.each t.at t.there; allowed = t.allowed; others = t.others })
-    ];
-    all = λ j h. elim h [
-      | inl stop ↦ gone.stop j stop.0 stop.1
-      | inr t ↦ let there : Has first t.at = read.all t.at t.leads in
-          gone.all j (record { at = t.at; below = within t.at there; there = there; allowed = t.allowed; others = t.others })
-    ];
-  }
+      )))
+      | inr after ↦ later.added j (record { at = t.at; later = after; there = there; leads = t.others })
+    ]
+  ];
+}
+  where
+    here_or_later : (i j : ℕ) → i ≤ j → (j ≡ i) ⊎ (i + 1 ≤ j)
+    here_or_later i j h = grind arith

@@ -20,16 +20,6 @@ rows_within s t k n less h =
     twice : (a b : ℕ) → a * (2 * b) ≡ a * (b + b)
     twice a b = let e : 2 * b ≡ b + b = omega arith in rw e refl
 
--- k rows of so many look-ups
-pub rows_in_all : (s t k n m : ℕ) → k ≤ n → t ≤ s + k * m → t ≤ s + m * n
-rows_in_all s t k n m less h =
-    let a : k * m ≤ n * m = mul-le k m n m less (omega arith) in
-    let b : n * m ≡ m * n = turned n m in
-    omega arith
-  where
-    turned : (a b : ℕ) → a * b ≡ b * a
-    turned a b = grind arith
-
 -- of so many rows all were found, or some
 pub rows_done : (s t f m n : ℕ) → t + f * m ≤ s + n * m → t ≤ s + n * m
 rows_done s t f m n h = omega arith

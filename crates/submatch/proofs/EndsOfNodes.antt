@@ -87,9 +87,6 @@ is_rep (rep m n t) l o e = let p : m ≡ l = cc e in let q : n ≡ o = cc e in c
 pub has_part_of_group : (t : Tree) (h : ℕ) → node_of t ≡ Group h → 0 < count_of (parts_of t)
 has_part_of_group t h e = subst (λ x. 0 < count_of (parts_of x)) (sym (is_group t h e)) (omega arith)
 
-pub has_part_of_rep : (t : Tree) (l : ℕ) (o : Option ℕ) → node_of t ≡ Rep l o → 0 < count_of (parts_of t)
-has_part_of_rep t l o e = subst (λ x. 0 < count_of (parts_of x)) (sym (is_rep t l o e)) (omega arith)
-
 -- a part for one byte
 abbrev pub IsByteNode : Node → Type 0
 IsByteNode (Byte b) = Unit {0}

@@ -143,16 +143,6 @@ module _ (fold : Bool) (w : List ℕ) (t : Tree) (m : ℕ) (n : Option ℕ) (fro
       no_rest (next e c a rest) g never leaves = absurd (head_is_there (IsIteration (IsParse fold w t) m n k)
           (AreIterations (IsParse fold w t) m n (suc k)) place to e c a rest (iterations_of_greatest (IsParse fold w t) m n k place to e c a rest g) never)
 
-  -- in the text, and a parse
-  pub begins_inside : (k place : ℕ) (s : Span) → HasCome k place (Some s) → s.from ≤ length w
-  begins_inside k place s so_far = so_far.begins
-
-  pub is_reached : (k place : ℕ) (s : Span) → HasCome k place (Some s) → Reaches (IsParse fold w t) s.from s.to
-  is_reached k place s so_far = so_far.reached
-
-  pub is_first : (k place : ℕ) → HasCome k place None → k ≡ 0
-  is_first k place so_far = so_far.reached
-
 -- no more iterations than the bound can come
 pub at_the_bound : (fold : Bool) (w : List ℕ) (t : Tree) (m : ℕ) (n : Option ℕ) (from to k bound place : ℕ) (last : Option Span) → k ≡ bound →
     ((x : ℕ) → n ≡ Some x → bound ≡ x) → (n ≡ None → bound ≡ max m 1 + length w + 1) → HasCome fold w t m n from to k place last →

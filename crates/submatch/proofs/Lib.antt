@@ -20,3 +20,4 @@ pub mod Iterating
 pub mod Rebuilding
 pub mod Spending
 pub mod Finding
+pub mod Joining

@@ -28,12 +28,7 @@ two_of zero e other = cc e
 two_of (suc zero) e other = absurd (other refl)
 two_of (suc (suc n)) e other = omega arith
 
--- a group and a repetition have a part inside
-pub some_inside : (trees : List Tree) (T : TableValue) (at g : ℕ) (inside : List ℕ) → node_of (tree_at trees at) ≡ Group g →
-    AreInside trees T (length T.parts) inside (parts_of (tree_at trees at)) → 0 < length inside
-some_inside trees T at g inside e are =
-    let some : 0 < count_of (parts_of (tree_at trees at)) = has_part_of_group (tree_at trees at) g e in subst (λ x. 0 < x) (sym are.count) some
-
+-- a group and a repetition have one part inside
 pub one_inside : (trees : List Tree) (T : TableValue) (at m : ℕ) (o : Option ℕ) (inside : List ℕ) → node_of (tree_at trees at) ≡ Rep m o →
     AreInside trees T (length T.parts) inside (parts_of (tree_at trees at)) → length inside ≡ 1
 one_inside trees T at m o inside e are =

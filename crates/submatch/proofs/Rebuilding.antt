@@ -1,6 +1,6 @@
 -- The greatest parse rebuilt: its groups, part by part.
 use Rattle.std.proofs.Common.{◌≡◌, ℕ, zero, suc, ◌+◌, ◌<◌, ◌≤◌, ◌⊎◌, inl, inr, refl, sym, ◌∙◌, subst, ap, arith, Bool, List, [], ◌∷◌, ◌++◌, length, Option, Some, None}
-use Rattle.posix_ere.specs.Tree.{Tree, Trees, branch, group, none, more}
+use Rattle.posix_ere.specs.Tree.{Tree, Trees, branch, none, more}
 use Rattle.posix_ere.specs.Parts.{count_of, part, parts_of}
 use Rattle.posix_ere.specs.Nodes.{node_of}
 use Rattle.posix_ere.specs.declared.node.Node.TheVariants.{Alt, Branch, Group, Rep}
@@ -257,11 +257,6 @@ earliest_rebuilt fold w t u s old new e first reached rebuilt = alt_rebuilt fold
 
 -- what a part reaches, the parts inside it do
 module _ (fold : Bool) (w : List ℕ) (t : Tree) (i j : ℕ) where
-  pub group_reaches : (g : ℕ) → node_of t ≡ Group g → Reaches (IsParse fold w t) i j → Reaches (IsParse fold w (part (parts_of t) 0)) i j
-  group_reaches g e h =
-      let r : Reaches (IsParse fold w (group g (part (parts_of t) 0))) i j = subst (λ x. Reaches (IsParse fold w x) i j) (is_group t g e) h in
-      alone_to fold w (part (parts_of t) 0) i j (r.1, r.2.1)
-
   pub alt_reaches : node_of t ≡ Alt → Reaches (IsParse fold w t) i j → (c : ℕ) × (a : Parses) × IsBranch fold w (parts_of t) c i j a
   alt_reaches e h = subst (λ x. Reaches (IsParse fold w x) i j) (is_alt t e) h
 

@@ -5,11 +5,11 @@ use Rattle.std.proofs.lemmas.Nat.{mul-le}
 use Rattle.posix_ere.specs.Tree.{Tree, atom, alt, branch, group, rep, Trees, none, more}
 use Rattle.posix_ere.specs.Parts.{count_of, part, parts_of, times, weight, weights}
 use Rattle.posix_ere.specs.Nodes.{node_of}
-use Rattle.posix_ere.specs.declared.node.Node.TheVariants.{Alt, Branch, Group, Rep}
+use Rattle.posix_ere.specs.declared.node.Node.TheVariants.{Alt, Branch, Rep}
 use Rattle.submatch.specs.Parses.{Parses, no_more, next, IsParse, ArePieces, IsBranch}
 use Rattle.submatch.specs.Ends.{IsLeaf}
 use Rattle.submatch.specs.Table.{last_count}
-use Rattle.submatch.proofs.EndsOfNodes.{is_alt, is_branch, is_group, is_rep}
+use Rattle.submatch.proofs.EndsOfNodes.{is_alt, is_branch, is_rep}
 use Rattle.submatch.proofs.Compiling.{weights_to, weights_next, weights_all}
 
 one_times : (q : ℕ) → 1 * q ≡ q
@@ -57,12 +57,6 @@ spent_leaf (branch ts) q s leaf = absurd leaf
 spent_leaf (group g t) q s leaf = absurd leaf
 spent_leaf (rep m n t) q s leaf = absurd leaf
 
-pub spent_group : (t : Tree) (g q s to : ℕ) → node_of t ≡ Group g → to + 2 * q ≤ s + 4 * (weight (part (parts_of t) 0) * q) →
-    to + 2 * q ≤ s + 4 * (weight t * q)
-spent_group t g q s to e h =
-    let heavier : weight (part (parts_of t) 0) ≤ weight t = subst (λ x. weight (part (parts_of x) 0) ≤ weight x) (sym (is_group t g e)) (omega arith) in
-    let a : weight (part (parts_of t) 0) * q ≤ weight t * q = mul-le (weight (part (parts_of t) 0)) q (weight t) q heavier (omega arith) in omega arith
-
 -- one look-up for each alternative but the last
 pub spent_alt : (t : Tree) (k looked q s mid to : ℕ) → node_of t ≡ Alt → k < count_of (parts_of t) → looked + 1 ≤ count_of (parts_of t) → 1 ≤ q →
     mid ≤ s + looked → to + 2 * q ≤ mid + 4 * (weight (part (parts_of t) k) * q) → to + 2 * q ≤ s + 4 * (weight t * q)
@@ -87,9 +81,6 @@ spent_piece ts k n s mid turn to less before found h =
     let whole : weights_to (k + 1) ts * q ≡ (weights_to k ts + weight (part ts k)) * q = ap (λ x. x * q) sum in
     let split : (weights_to k ts + weight (part ts k)) * q ≡ weights_to k ts * q + weight (part ts k) * q = add-mul (weights_to k ts) (weight (part ts k)) q in
     let turn_is : n + 2 ≤ 2 * q = turn_within n in omega arith
-
-pub spent_none : (ts : Trees) (q s : ℕ) → s ≤ s + 4 * (weights_to 0 ts * q)
-spent_none ts q s = omega arith
 
 pub spent_last : (t : Tree) (last q s mid to : ℕ) → node_of t ≡ Branch → last + 1 ≡ count_of (parts_of t) → mid ≤ s + 4 * (weights_to last (parts_of t) * q) →
     to + 2 * q ≤ mid + 4 * (weight (part (parts_of t) last) * q) → to + 2 * q ≤ s + 4 * (weight t * q)

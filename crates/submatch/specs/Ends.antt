@@ -18,10 +18,6 @@ Reaches One i j = (c : ℕ) × (a : Parses) × One i j c a
 abbrev pub RowReaches : AreParses → ℕ → ℕ → Type 0
 RowReaches More i j = (ps : Parses) × More i j ps
 
--- some branch has a parse that covers the text from i to j
-abbrev pub BranchReaches : Bool → List ℕ → Trees → ℕ → ℕ → Type 0
-BranchReaches fold w ts i j = (c : ℕ) × (ps : Parses) × IsBranch fold w ts c i j ps
-
 -- a part for one byte or for a place
 abbrev pub IsLeaf : Node → Type 0
 IsLeaf (Byte b) = Unit {0}

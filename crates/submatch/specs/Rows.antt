@@ -25,6 +25,19 @@ pub record AreEnds (P : ℕ → Type 0) (row : Row) : Type 0 where
 abbrev pub Leads : List Row → ℕ → ℕ → Type 0
 Leads rows i j = (row : Row) × (slice_get rows i ≡ Some row) × Has row j
 
+-- the rows of the places that a row has, from one place on, have the place j
+pub record LeadsFrom (rows : List Row) (places : Row) (from j : ℕ) : Type 0 where
+  pub at : ℕ
+  pub later : from ≤ at
+  pub there : Has places at
+  pub leads : Leads rows at j
+
+-- the rows of the places whose bits are set in a word, counted from `start`, have the place j
+pub record LeadsFromBit (rows : List Row) (word start j : ℕ) : Type 0 where
+  pub bit : ℕ
+  pub there : bit_at word bit ≡ 1
+  pub leads : Leads rows (start + bit) j
+
 -- The rows are those of a relation between the places of a text of n bytes: the row at i has the places to which i is related,
 -- and no others. A column with no rows is that of a relation that never holds.
 pub record IsColumn (n : ℕ) (P : ℕ → ℕ → Type 0) (rows : List Row) : Type 0 where

@@ -1,7 +1,7 @@
 -- The compiled expression: columns of rows, and parts that name their columns by number.
 use Rattle.std.specs.Prelude.{◌≡◌, ℕ, suc, ◌+◌, ◌-◌, ◌*◌, ◌<◌, ◌≤◌, max, Bool, List, [], ◌∷◌, ◌++◌, length, Option, Some, None, slice_index, slice_index_or}
 use Rattle.posix_ere.specs.Tree.{Tree, branch, rep, Trees}
-use Rattle.posix_ere.specs.Parts.{count_of, part, parts_of}
+use Rattle.posix_ere.specs.Parts.{count_of, part, parts_of, weight, weights}
 use Rattle.posix_ere.specs.Nodes.{tree_at}
 use Rattle.submatch.specs.Parses.{IsParse, ArePieces, AreIterations}
 use Rattle.submatch.specs.Ends.{Reaches, RowReaches, parts_from}
@@ -98,6 +98,23 @@ pub record IsShare (Alive : Type 0) (count weight q from to : ℕ) : Type 0 wher
 -- the square of the number of places in a text
 abbrev pub square : List ℕ → ℕ
 square w = (length w + 1) * (length w + 1)
+
+-- the parts with these numbers are those inside a tree, in their order
+abbrev pub AreInsideOf : List Tree → TableValue → List ℕ → ℕ → Type 0
+AreInsideOf trees T inside at = AreInside trees T (length T.parts) inside (parts_of (tree_at trees at))
+
+-- the look-ups from one count to another are the share of the parts inside a tree
+abbrev pub IsShareInside : List ℕ → Tree → TableValue → List ℕ → ℕ → ℕ → Type 0
+IsShareInside w t T inside = IsShare (AreAlive T inside) (count_of (parts_of t)) (weights (parts_of t)) (square w)
+
+-- the look-ups up to `old` are the share of the parts inside a tree, so those up to `new` are no more than its weight allows
+abbrev pub KeepsToWeight : List ℕ → Tree → TableValue → List ℕ → ℕ → ℕ → Type 0
+KeepsToWeight w t T inside old new = (from : ℕ) → IsShareInside w t T inside from old → new ≤ from + 4 * (weight t * square w)
+
+-- the same, and those up to `new` are the share of its own part, which stands in a later table
+abbrev pub KeepsToShare : List ℕ → Tree → TableValue → List ℕ → TableValue → PartValue → ℕ → ℕ → Type 0
+KeepsToShare w t T inside later p old new = (from : ℕ) → IsShareInside w t T inside from old →
+    IsShare (0 < length (column_at later p.own)) 1 (weight t) (square w) from new
 
 -- a part of this tree was made over the parts inside it: columns alone were added
 pub record IsMade (fold : Bool) (w : List ℕ) (trees : List Tree) (old new : TableValue) (at : ℕ) (p : PartValue) : Type 0 where

@@ -1,7 +1,8 @@
 //! Columns: for each place of a text a row, the ends of what begins there.
-ghost use Rattle.std.specs.Prelude.{◌≡◌, ◌+◌, ◌<◌, ◌≤◌, ◌↔◌, ◌++◌, ◌∷◌, [], IsTrue, length, OnOk, IfOk, replicate};
+ghost use Rattle.std.specs.Prelude.{◌≡◌, ℕ, ◌+◌, ◌<◌, ◌≤◌, ◌↔◌, ◌++◌, ◌∷◌, [], IsTrue, length, OnOk, IfOk};
+ghost use Rattle.std.specs.Int.{bit_at};
 ghost use Rattle.std.specs.List.{slice_set};
-ghost use Rattle.submatch.specs.Rows.{Leads, AreEnds};
+ghost use Rattle.submatch.specs.Rows.{Has, Leads, LeadsFrom, LeadsFromBit, AreEnds, AddsPlaces};
 
 use super::row::Row;
 use enum_base::{MemoryFault, Steps};
@@ -79,6 +80,66 @@ impl<A: Allocator> Column<A> {
                 *row
             }
             None => Row::new(),
+        }
+    }
+
+    /// Adds to a row that of a place: one step where there is one.
+    fn join_row<L: Ledger>(&self, from: u16, row: &mut Row, steps: &mut Steps<L>)
+        ensures row { AddsPlaces (Leads self.now from) row.old row.new }
+        ensures steps { steps.new ≤ steps.old + 1 }
+        ensures up { steps.old ≤ steps.new }
+    {
+        if let Some(more) = self.rows.get(usize::from(from)) {
+            steps.tick();
+            row.join(more);
+        }
+    }
+
+    /// The same where something holds, and else nothing.
+    fn join_row_where<L: Ledger>(&self, holds: bool, from: u16, row: &mut Row, steps: &mut Steps<L>)
+        ensures row { AddsPlaces (λ j. IsTrue holds × Leads self.now from j) row.old row.new }
+        ensures steps { steps.new ≤ steps.old + 1 }
+        ensures up { steps.old ≤ steps.new }
+    {
+        if !holds {
+            return;
+        }
+        self.join_row(from, row, steps)
+    }
+
+    /// Adds to a row those of the places whose bits are set in a word, the first of which is `start`.
+    fn join_word<L: Ledger>(&self, word: u64, start: u16, row: &mut Row, steps: &mut Steps<L>)
+        requires { start < 256 }
+        ensures row { AddsPlaces (LeadsFromBit self.now word start) row.old row.new }
+        ensures steps { (n : ℕ) → ((bit : ℕ) → bit_at word bit ≡ 1 → bit < n) → steps.new ≤ steps.old + n }
+        ensures up { steps.old ≤ steps.new }
+    {
+        let mut left = word;
+        let mut at = start;
+        while left != 0 {
+            self.join_row_where(left % 2 == 1, at, row, steps);
+            left /= 2;
+            at += 1;
+        }
+    }
+
+    /// Adds to a row those of the places that another row has, from this place on: at most one step for each of these.
+    pub(crate) fn join_rows<L: Ledger>(
+        &self,
+        places: &Row,
+        from: u16,
+        row: &mut Row,
+        steps: &mut Steps<L>,
+    )
+        requires { from ≤ 256 }
+        ensures row { AddsPlaces (LeadsFrom self.now places.now from) row.old row.new }
+        ensures steps { (n : ℕ) → from ≤ n → ((at : ℕ) → Has places.now at → at < n) → steps.new + from ≤ steps.old + n }
+        ensures up { steps.old ≤ steps.new }
+    {
+        let mut at = from;
+        while at < 256 {
+            self.join_word(places.word_from(at), at, row, steps);
+            at = (at / 64 + 1) * 64;
         }
     }
 }

@@ -1,14 +1,10 @@
 //! An expression compiled to a table: its parts with the columns of their ends, each found once for all starts.
-ghost use Rattle.std.specs.Prelude.{◌≡◌, ℕ, zero, ◌+◌, ◌*◌, ◌-◌, ◌<◌, ◌≤◌, max, length, slice_index, false, true, IsTrue, Some, None, IfOk};
-ghost use Rattle.posix_ere.specs.Parts.{parts_of, count_of, part, weight, weights};
-ghost use Rattle.posix_ere.specs.Nodes.{tree_at, node_of};
+ghost use Rattle.std.specs.Prelude.{◌≡◌, ◌+◌, ◌*◌, ◌-◌, ◌<◌, ◌≤◌, length, IfOk};
+ghost use Rattle.posix_ere.specs.Parts.{parts_of, part, weight, weights};
+ghost use Rattle.posix_ere.specs.Nodes.{tree_at};
 ghost use Rattle.posix_ere.specs.declared.node.Node.TheVariants.{Alt, Branch, Rep, Group};
-ghost use Rattle.submatch.specs.Parses.{IsParse, AreIterations};
-ghost use Rattle.submatch.specs.Ends.{Reaches, RowReaches};
-ghost use Rattle.submatch.specs.Rows.{IsColumn};
-ghost use Rattle.submatch.specs.Table.{AreParts, AreInside, AreAlive, IsShare, IsMade, IsAlive, Grows, square, column_at, part_at, last_count};
+ghost use Rattle.submatch.specs.Table.{AreParts, IsShare, IsMade, IsAlive, Grows, square, part_at, AreInsideOf, IsShareInside, KeepsToWeight, KeepsToShare};
 
-use super::column::Column;
 use super::search::Search;
 use super::table::{Part, Table};
 use enum_base::{MemoryFault, Steps};
@@ -53,13 +49,11 @@ impl<A: Allocator + Copy> Search<'_, '_, A> {
         requires parts { AreParts self.now.fold self.now.text.now self.now.ere.now table.old }
         ensures parts { IfOk result (λ xs. AreParts self.now.fold self.now.text.now self.now.ere.now table.new) }
         ensures grows { IfOk result (λ xs. Grows table.old table.new) }
-        ensures inside { IfOk result (λ xs. AreInside self.now.ere.now table.new (length table.new.parts) xs.items
-            (parts_of (tree_at self.now.ere.now at))) }
+        ensures inside { IfOk result (λ xs. AreInsideOf self.now.ere.now table.new xs.items at) }
         ensures most { steps.new ≤ steps.old +
             4 * (weights (parts_of (tree_at self.now.ere.now at)) * square self.now.text.now) }
-        ensures share { IfOk result (λ xs. IsShare (AreAlive table.new xs.items)
-            (count_of (parts_of (tree_at self.now.ere.now at))) (weights (parts_of (tree_at self.now.ere.now at)))
-            (square self.now.text.now) steps.old steps.new) }
+        ensures share { IfOk result (λ xs. IsShareInside self.now.text.now (tree_at self.now.ere.now at) table.new xs.items
+            steps.old steps.new) }
     {
         let mut inside = Vec::new(self.alloc);
         for k in 0..self.ere.children(at) {
@@ -78,19 +72,12 @@ impl<A: Allocator + Copy> Search<'_, '_, A> {
         steps: &mut Steps<L>,
     ) -> Result<Part<A>, MemoryFault>
         requires known { at < length self.now.ere.now }
-        requires inside { AreInside self.now.ere.now table.old (length table.old.parts) inside.items
-            (parts_of (tree_at self.now.ere.now at)) }
+        requires inside { AreInsideOf self.now.ere.now table.old inside.items at }
         requires parts { AreParts self.now.fold self.now.text.now self.now.ere.now table.old }
         ensures made { IfOk result (IsMade self.now.fold self.now.text.now self.now.ere.now table.old table.new at) }
-        ensures most { (from : ℕ) → IsShare (AreAlive table.old inside.items)
-            (count_of (parts_of (tree_at self.now.ere.now at))) (weights (parts_of (tree_at self.now.ere.now at)))
-            (square self.now.text.now) from steps.old →
-            steps.new ≤ from + 4 * (weight (tree_at self.now.ere.now at) * square self.now.text.now) }
-        ensures share { IfOk result (λ p. (from : ℕ) → IsShare (AreAlive table.old inside.items)
-            (count_of (parts_of (tree_at self.now.ere.now at))) (weights (parts_of (tree_at self.now.ere.now at)))
-            (square self.now.text.now) from steps.old →
-            IsShare (zero < length (column_at table.new p.own)) 1 (weight (tree_at self.now.ere.now at))
-            (square self.now.text.now) from steps.new) }
+        ensures most { KeepsToWeight self.now.text.now (tree_at self.now.ere.now at) table.old inside.items steps.old steps.new }
+        ensures share { IfOk result (λ p. KeepsToShare self.now.text.now (tree_at self.now.ere.now at) table.old inside.items
+            table.new p steps.old steps.new) }
     {
         match self.ere.node(at) {
             Node::Group(_) => Ok(self.made_through(at, inside, table)),

@@ -1,10 +1,10 @@
 //! Columns made from other columns.
-ghost use Rattle.std.specs.Prelude.{◌≡◌, ℕ, zero, ◌+◌, ◌*◌, ◌-◌, ◌<◌, ◌≤◌, max, length, slice_index, IsTrue, None, IfOk};
-ghost use Rattle.posix_ere.specs.Parts.{parts_of, count_of, part};
-ghost use Rattle.posix_ere.specs.Nodes.{tree_at, node_of};
+ghost use Rattle.std.specs.Prelude.{◌≡◌, ℕ, ◌+◌, ◌*◌, ◌-◌, ◌<◌, ◌≤◌, max, length, slice_index, IsTrue, None, IfOk};
+ghost use Rattle.posix_ere.specs.Parts.{part};
+ghost use Rattle.posix_ere.specs.Nodes.{tree_at};
 ghost use Rattle.submatch.specs.Parses.{IsParse, AreIterations};
-ghost use Rattle.submatch.specs.Ends.{Reaches, RowReaches, BranchReaches};
-ghost use Rattle.submatch.specs.Rows.{Has, Leads, AreEnds, AddsPlaces, IsColumn, AreForward, IsAllowed, StopsOrGoes};
+ghost use Rattle.submatch.specs.Ends.{Reaches, RowReaches};
+ghost use Rattle.submatch.specs.Rows.{Has, Leads, AreEnds, IsColumn, AreForward, IsAllowed, StopsOrGoes};
 ghost use Rattle.submatch.specs.Table.{LeadsSome, square, part_at};
 
 use super::column::Column;
@@ -63,10 +63,9 @@ impl<A: Allocator + Copy> Search<'_, '_, A> {
     {
         let mut row = Row::one(stops, from);
         let first = part.row(from, steps);
-        for at in from..self.places() {
-            let next = self.row_after(&first, rest, empties, from, at, steps);
-            row.join(&next);
-        }
+        let here = self.row_after(&first, rest, empties, from, from, steps);
+        row.join(&here);
+        rest.join_rows(&first, from + 1, &mut row, steps);
         row
     }
 

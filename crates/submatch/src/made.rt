@@ -1,12 +1,12 @@
 //! The part of each kind of node, made over the parts inside it.
 ghost use Rattle.std.specs.Prelude.{◌≡◌, ℕ, zero, ◌+◌, ◌*◌, ◌-◌, ◌<◌, ◌≤◌, ◌↔◌, length, slice_index, IsTrue, IfOk};
-ghost use Rattle.posix_ere.specs.Parts.{parts_of, count_of, weight, weights};
+ghost use Rattle.posix_ere.specs.Parts.{parts_of, count_of};
 ghost use Rattle.posix_ere.specs.Nodes.{tree_at, node_of};
 ghost use Rattle.posix_ere.specs.declared.node.Node.TheVariants as n;
 ghost use Rattle.submatch.specs.Parses.{IsParse, AreIterations};
 ghost use Rattle.submatch.specs.Rows.{IsColumn, AreForward};
 ghost use Rattle.submatch.specs.Ends.{Reaches, RowReaches, IsLeaf};
-ghost use Rattle.submatch.specs.Table.{AreParts, AreInside, AreAlive, IsShare, IsMade, AddsJoined, PassesOn, square, column_at, part_at, last_count as last_of};
+ghost use Rattle.submatch.specs.Table.{AreParts, AreAlive, IsMade, AddsJoined, PassesOn, square, column_at, part_at, last_count as last_of, AreInsideOf, KeepsToWeight, KeepsToShare};
 
 use super::column::Column;
 use super::search::Search;
@@ -25,8 +25,7 @@ impl<A: Allocator + Copy> Search<'_, '_, A> {
     ) -> Result<Part<A>, MemoryFault>
         requires known { at < length self.now.ere.now }
         requires leaf { IsLeaf (node_of (tree_at self.now.ere.now at)) }
-        requires inside { AreInside self.now.ere.now table.old (length table.old.parts) inside.items
-            (parts_of (tree_at self.now.ere.now at)) }
+        requires inside { AreInsideOf self.now.ere.now table.old inside.items at }
         ensures { IfOk result (IsMade self.now.fold self.now.text.now self.now.ere.now table.old table.new at) }
     {
         let column = self.leaf(at)?;
@@ -38,8 +37,7 @@ impl<A: Allocator + Copy> Search<'_, '_, A> {
     pub(crate) fn made_through(&self, at: u32, inside: Vec<usize, A>, table: &Table<A>) -> Part<A>
         requires known { at < length self.now.ere.now }
         requires passes { PassesOn self.now.fold self.now.text.now (tree_at self.now.ere.now at) }
-        requires inside { AreInside self.now.ere.now table.now (length table.now.parts) inside.items
-            (parts_of (tree_at self.now.ere.now at)) }
+        requires inside { AreInsideOf self.now.ere.now table.now inside.items at }
         requires parts { AreParts self.now.fold self.now.text.now self.now.ere.now table.now }
         ensures made { IsMade self.now.fold self.now.text.now self.now.ere.now table.now table.now at result }
         ensures same { result.own ≡ (part_at table.now (slice_index inside.items 0)).own }
@@ -56,8 +54,7 @@ impl<A: Allocator + Copy> Search<'_, '_, A> {
         table: &mut Table<A>,
     ) -> Result<Part<A>, MemoryFault>
         requires known { at < length self.now.ere.now }
-        requires inside { AreInside self.now.ere.now table.old (length table.old.parts) inside.items
-            (parts_of (tree_at self.now.ere.now at)) }
+        requires inside { AreInsideOf self.now.ere.now table.old inside.items at }
         requires never { (i j : ℕ) → i ≤ length self.now.text.now → Reaches (IsParse self.now.fold self.now.text.now
             (tree_at self.now.ere.now at)) i j → ⊥ }
         ensures made { IfOk result (IsMade self.now.fold self.now.text.now self.now.ere.now table.old table.new at) }
@@ -77,19 +74,12 @@ impl<A: Allocator + Copy> Search<'_, '_, A> {
     ) -> Result<Part<A>, MemoryFault>
         requires known { at < length self.now.ere.now }
         requires kind { node_of (tree_at self.now.ere.now at) ≡ n.Alt }
-        requires inside { AreInside self.now.ere.now table.old (length table.old.parts) inside.items
-            (parts_of (tree_at self.now.ere.now at)) }
+        requires inside { AreInsideOf self.now.ere.now table.old inside.items at }
         requires parts { AreParts self.now.fold self.now.text.now self.now.ere.now table.old }
         ensures made { IfOk result (IsMade self.now.fold self.now.text.now self.now.ere.now table.old table.new at) }
-        ensures most { (from : ℕ) → IsShare (AreAlive table.old inside.items)
-            (count_of (parts_of (tree_at self.now.ere.now at))) (weights (parts_of (tree_at self.now.ere.now at)))
-            (square self.now.text.now) from steps.old →
-            steps.new ≤ from + 4 * (weight (tree_at self.now.ere.now at) * square self.now.text.now) }
-        ensures share { IfOk result (λ p. (from : ℕ) → IsShare (AreAlive table.old inside.items)
-            (count_of (parts_of (tree_at self.now.ere.now at))) (weights (parts_of (tree_at self.now.ere.now at)))
-            (square self.now.text.now) from steps.old →
-            IsShare (zero < length (column_at table.new p.own)) 1 (weight (tree_at self.now.ere.now at))
-            (square self.now.text.now) from steps.new) }
+        ensures most { KeepsToWeight self.now.text.now (tree_at self.now.ere.now at) table.old inside.items steps.old steps.new }
+        ensures share { IfOk result (λ p. KeepsToShare self.now.text.now (tree_at self.now.ere.now at) table.old inside.items
+            table.new p steps.old steps.new) }
     {
         if inside.is_empty() {
             return self.made_dead(at, inside, table);
@@ -109,10 +99,9 @@ impl<A: Allocator + Copy> Search<'_, '_, A> {
         steps: &mut Steps<L>,
     ) -> Result<Part<A>, MemoryFault>
         requires known { at < length self.now.ere.now }
-        requires kind { node_of (tree_at self.now.ere.now at) ≡ n.Alt }
-        requires inside { AreInside self.now.ere.now table.old (length table.old.parts) inside.items
-            (parts_of (tree_at self.now.ere.now at)) }
         requires parts { AreParts self.now.fold self.now.text.now self.now.ere.now table.old }
+        requires kind { node_of (tree_at self.now.ere.now at) ≡ n.Alt }
+        requires inside { AreInsideOf self.now.ere.now table.old inside.items at }
         ensures made { IfOk result (IsMade self.now.fold self.now.text.now self.now.ere.now table.old table.new at) }
         ensures most { steps.new ≤ steps.old + count_of (parts_of (tree_at self.now.ere.now at)) * (length self.now.text.now + 1) }
     {
@@ -131,19 +120,12 @@ impl<A: Allocator + Copy> Search<'_, '_, A> {
     ) -> Result<Part<A>, MemoryFault>
         requires known { at < length self.now.ere.now }
         requires kind { node_of (tree_at self.now.ere.now at) ≡ n.Branch }
-        requires inside { AreInside self.now.ere.now table.old (length table.old.parts) inside.items
-            (parts_of (tree_at self.now.ere.now at)) }
+        requires inside { AreInsideOf self.now.ere.now table.old inside.items at }
         requires parts { AreParts self.now.fold self.now.text.now self.now.ere.now table.old }
         ensures made { IfOk result (IsMade self.now.fold self.now.text.now self.now.ere.now table.old table.new at) }
-        ensures most { (from : ℕ) → IsShare (AreAlive table.old inside.items)
-            (count_of (parts_of (tree_at self.now.ere.now at))) (weights (parts_of (tree_at self.now.ere.now at)))
-            (square self.now.text.now) from steps.old →
-            steps.new ≤ from + 4 * (weight (tree_at self.now.ere.now at) * square self.now.text.now) }
-        ensures share { IfOk result (λ p. (from : ℕ) → IsShare (AreAlive table.old inside.items)
-            (count_of (parts_of (tree_at self.now.ere.now at))) (weights (parts_of (tree_at self.now.ere.now at)))
-            (square self.now.text.now) from steps.old →
-            IsShare (zero < length (column_at table.new p.own)) 1 (weight (tree_at self.now.ere.now at))
-            (square self.now.text.now) from steps.new) }
+        ensures most { KeepsToWeight self.now.text.now (tree_at self.now.ere.now at) table.old inside.items steps.old steps.new }
+        ensures share { IfOk result (λ p. KeepsToShare self.now.text.now (tree_at self.now.ere.now at) table.old inside.items
+            table.new p steps.old steps.new) }
     {
         if inside.is_empty() {
             return self.made_empty(at, inside, table);
@@ -164,8 +146,7 @@ impl<A: Allocator + Copy> Search<'_, '_, A> {
         requires known { at < length self.now.ere.now }
         requires kind { node_of (tree_at self.now.ere.now at) ≡ n.Branch }
         requires empty { count_of (parts_of (tree_at self.now.ere.now at)) ≡ 0 }
-        requires inside { AreInside self.now.ere.now table.old (length table.old.parts) inside.items
-            (parts_of (tree_at self.now.ere.now at)) }
+        requires inside { AreInsideOf self.now.ere.now table.old inside.items at }
         ensures made { IfOk result (IsMade self.now.fold self.now.text.now self.now.ere.now table.old table.new at) }
     {
         let column = self.stay(true)?;
@@ -184,8 +165,7 @@ impl<A: Allocator + Copy> Search<'_, '_, A> {
         requires known { at < length self.now.ere.now }
         requires kind { node_of (tree_at self.now.ere.now at) ≡ n.Branch }
         requires some { zero < length inside.items }
-        requires inside { AreInside self.now.ere.now table.old (length table.old.parts) inside.items
-            (parts_of (tree_at self.now.ere.now at)) }
+        requires inside { AreInsideOf self.now.ere.now table.old inside.items at }
         requires parts { AreParts self.now.fold self.now.text.now self.now.ere.now table.old }
         ensures made { IfOk result (IsMade self.now.fold self.now.text.now self.now.ere.now table.old table.new at) }
         ensures most { steps.new ≤ steps.old + (count_of (parts_of (tree_at self.now.ere.now at)) - 1) * (2 * square self.now.text.now) }
@@ -253,8 +233,7 @@ impl<A: Allocator + Copy> Search<'_, '_, A> {
     ) -> Result<Part<A>, MemoryFault>
         requires known { at < length self.now.ere.now }
         requires kind { node_of (tree_at self.now.ere.now at) ≡ n.Rep least most }
-        requires inside { AreInside self.now.ere.now table.old (length table.old.parts) inside.items
-            (parts_of (tree_at self.now.ere.now at)) }
+        requires inside { AreInsideOf self.now.ere.now table.old inside.items at }
         requires parts { AreParts self.now.fold self.now.text.now self.now.ere.now table.old }
         ensures made { IfOk result (IsMade self.now.fold self.now.text.now self.now.ere.now table.old table.new at) }
         ensures most { steps.new ≤ steps.old + 2 * square self.now.text.now +

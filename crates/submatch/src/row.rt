@@ -1,5 +1,6 @@
 //! Rows: places of a text as bits.
-ghost use Rattle.std.specs.Prelude.{◌≡◌, ◌<◌, ◌↔◌, IsTrue};
+ghost use Rattle.std.specs.Prelude.{◌≡◌, ℕ, ◌+◌, ◌-◌, ◌%◌, ◌<◌, ◌↔◌, IsTrue};
+ghost use Rattle.std.specs.Int.{bit_at};
 ghost use Rattle.submatch.specs.Rows.{Has, AddsPlaces, AreEnds};
 
 use std::marker::Model;
@@ -51,6 +52,14 @@ impl Row {
         self.words[usize::from(place / 64)] >> (place % 64) & 1 == 1
     }
 
+    /// The bits of the places from this one on, to the last of the same word.
+    pub(crate) fn word_from(&self, place: u16) -> u64
+        requires { place < 256 }
+        ensures { (bit : ℕ) → (bit_at result bit ≡ 1) ↔ ((bit < 64 - place % 64) × Has self.now (place + bit)) }
+    {
+        bits_from(self.words[usize::from(place / 64)], place % 64)
+    }
+
     /// Adds the place.
     pub(crate) fn add(&mut self, place: u16)
         requires { place < 256 }
@@ -70,4 +79,12 @@ impl Row {
             self.words[3] | other.words[3],
         ];
     }
+}
+
+// The bits of a word from this one on.
+fn bits_from(word: u64, from: u16) -> u64
+    requires { from < 64 }
+    ensures { (bit : ℕ) → (bit_at result bit ≡ 1) ↔ ((from + bit < 64) × (bit_at word (from + bit) ≡ 1)) }
+{
+    word >> from
 }
