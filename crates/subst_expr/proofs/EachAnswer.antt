@@ -5,8 +5,6 @@ use Rattle.subst_expr.specs.Output.{IsOutput, IsUnmatched, IsApplied, IsApplyFau
 use Rattle.subst_expr.specs.Laws.{OneFault, WellFormedHasNoFault, OneOutput, UnmatchedHasNoOutput}
 use Rattle.subst_expr.specs.declared.regexp.RegexpFault.{RegexpFault}
 use Rattle.subst_expr.specs.declared.regexp.RegexpFault.TheVariants.{Memory}
-use Rattle.subst_expr.specs.declared.regexp.RegexpFault.TheVariants as RegexpFault
-use Rattle.subst_expr.specs.declared.rule.ApplyFault.TheVariants as ApplyFault
 use Rattle.subst_expr.specs.declared.rule.Applied.{Applied}
 use Rattle.subst_expr.specs.declared.rule.Applied.TheVariants.{Output, NoMatch}
 use Rattle.subst_expr.specs.declared.rule.ApplyFault.{ApplyFault}

@@ -9,7 +9,6 @@ use Rattle.subst_expr.specs.Regexp.{IsFirstMissing}
 use Rattle.subst_expr.specs.Replacement.{HasPieces}
 use Rattle.subst_expr.specs.Scans.{expansion_from, missing_from}
 use Rattle.subst_expr.specs.Split.{Splits}
-use Rattle.subst_expr.specs.declared.subst.SubstFault.{SubstFault}
 use Rattle.subst_expr.proofs.OneSplit.{split_pieces}
 use Rattle.subst_expr.proofs.PieceLemmas.{expansion_spelled, missing_spelled}
 use Rattle.subst_expr.specs.Output.{Expands}

@@ -5,3 +5,4 @@ mod SplitLemmas
 mod Expanding
 mod OneAnswer
 mod EachAnswer
+mod SomeOutput

@@ -4,16 +4,14 @@ use Rattle.posix_ere.specs.Parts.{groups, weight}
 use Rattle.posix_ere.specs.Grammar.{Reads}
 use Rattle.posix_ere.specs.Answers.{HasOneFault, HasOneTree, IsFaultOf}
 use Rattle.posix_ere.specs.declared.why.EreFault.{EreFault}
-use Rattle.posix_ere.specs.declared.why.EreFault.TheVariants as EreFault
 use Rattle.submatch.specs.declared.spans.Span.{Span}
 use Rattle.submatch.specs.Parses.{Parses, no_more, next}
 use Rattle.submatch.specs.Best.{IsBestMatch, HasNoMatch, AreBestGroups}
 use Rattle.submatch.specs.Groups.{groups_of, nine_spans}
 use Rattle.submatch.specs.Laws.{OneIsBest}
 use Rattle.subst_expr.specs.Split.{Splits}
-use Rattle.subst_expr.specs.Pieces.{Piece}
 use Rattle.subst_expr.specs.Replacement.{HasPieces, expansion, first_missing}
-use Rattle.subst_expr.specs.Regexp.{HasTree, IsFirstMissing, IsRegexpFault}
+use Rattle.subst_expr.specs.Regexp.{IsFirstMissing}
 use Rattle.subst_expr.specs.Laws.{OneFault, OneReading, WellFormedHasNoFault, OneOutput, UnmatchedHasNoOutput}
 use Rattle.subst_expr.specs.declared.subst.Subst.{Subst}
 use Rattle.subst_expr.specs.declared.subst.SubstFault.{SubstFault}
@@ -103,7 +101,7 @@ one_fault one law text e Memory x y h k = absurd (y refl)
 no_best : (fold : Bool) (w : List ℕ) (t : Tree) (i j c : ℕ) (a : Parses) → IsBestMatch fold w t i j c a → ((k : ℕ) → k ≤ length w → HasNoMatch fold w t k) → ⊥
 no_best fold w t i j c a best never = never i best.within (next j c a no_more) best.greatest.holds
 
-abbrev spans_of : Tree → ℕ → ℕ → ℕ → Parses → List (Option Span)
+abbrev pub spans_of : Tree → ℕ → ℕ → ℕ → Parses → List (Option Span)
 spans_of t i j c a = nine_spans (groups_of t i j c a)
 
 same_spans : (t : Tree) (i j c k l d : ℕ) (a b : Parses) → i ≡ k → j ≡ l → c ≡ d → a ≡ b → spans_of t i j c a ≡ spans_of t k l d b

@@ -4,7 +4,7 @@ use Rattle.subst_expr.specs.Replacement.{HasPieces}
 use Rattle.subst_expr.specs.Split.{Division, Undivided, Halved, Whole, Divides, IsEnd, split_of, SplitsRest, Splits, fault_or, bad_flag, repl_place, flags_place}
 use Rattle.subst_expr.specs.declared.subst.Subst.{Subst}
 use Rattle.subst_expr.specs.declared.subst.SubstFault.{SubstFault}
-use Rattle.subst_expr.specs.declared.subst.SubstFault.TheVariants.{Empty, NotPrintable, BadDelimiter, BadFlag, BadEscape}
+use Rattle.subst_expr.specs.declared.subst.SubstFault.TheVariants.{NotPrintable, BadDelimiter, BadFlag, BadEscape}
 
 -- a split, where there is one
 abbrev pub ok_or : Subst → Result Subst SubstFault → Subst

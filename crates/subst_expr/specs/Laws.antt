@@ -1,5 +1,5 @@
 -- That rules have one answer, as statements (this project's own).
-use Rattle.std.specs.Prelude.{◌≡◌, ◌≢◌, ℕ, List, Result}
+use Rattle.std.specs.Prelude.{◌≡◌, ◌≢◌, ◌⊎◌, ℕ, List, Result}
 use Rattle.posix_ere.specs.Tree.{Tree}
 use Rattle.subst_expr.specs.Regexp.{HasTree, IsWellFormed, IsRegexpFault}
 use Rattle.subst_expr.specs.Output.{IsOutput, IsUnmatched}
@@ -33,3 +33,15 @@ OneOutput = (text aus bytes others : List ℕ) → IsOutput text aus bytes → I
 -- where there is no match there is no output
 abbrev pub UnmatchedHasNoOutput : Type 0
 UnmatchedHasNoOutput = (text aus bytes : List ℕ) → IsUnmatched text aus → IsOutput text aus bytes → ⊥
+
+-- each text is well formed, or has a fault other than want of memory
+abbrev pub FormedOrFault : Type 0
+FormedOrFault = (text : List ℕ) → IsWellFormed text ⊎ ((fault : RegexpFault) × (fault ≢ Memory) × IsRegexpFault text fault)
+
+-- a well-formed text has an output over each original string, or has no match in it
+abbrev pub OutputOrUnmatched : Type 0
+OutputOrUnmatched = (text aus : List ℕ) → IsWellFormed text → ((bytes : List ℕ) × IsOutput text aus bytes) ⊎ IsUnmatched text aus
+
+-- each text has an output over each original string, or has none
+abbrev pub OutputOrNone : Type 0
+OutputOrNone = (text aus : List ℕ) → ((bytes : List ℕ) × IsOutput text aus bytes) ⊎ ((bytes : List ℕ) → ¬ IsOutput text aus bytes)

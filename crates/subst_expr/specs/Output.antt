@@ -1,5 +1,5 @@
 -- The output of a substitution (RFC 3402, section 3.2; that text outside the match is dropped is this project's own).
-use Rattle.std.specs.Prelude.{◌≡◌, ◌≢◌, ◌⊎◌, ℕ, ◌<◌, ◌≤◌, List, [], ◌++◌, length, Option, Some, None, Result, Ok, Err}
+use Rattle.std.specs.Prelude.{◌≡◌, ◌≢◌, ◌⊎◌, ℕ, ◌<◌, ◌≤◌, List, [], ◌++◌, length, Option, Some, None, Result, Err}
 use Rattle.posix_ere.specs.Tree.{Tree}
 use Rattle.submatch.specs.declared.spans.Span.{Span}
 use Rattle.submatch.specs.Best.{HasNoMatch, AreBestGroups}

@@ -1,5 +1,6 @@
-//! That rules have one answer. Each function does nothing: its contract is a law, proved like any other contract.
+//! That rules have an answer, and one alone. Each function does nothing: its contract is a law, proved like any other contract.
 ghost use Rattle.subst_expr.specs.Laws.{OneSplit, OneFault, OneReading, WellFormedHasNoFault, OneOutput, UnmatchedHasNoOutput};
+ghost use Rattle.subst_expr.specs.Laws.{FormedOrFault, OutputOrUnmatched, OutputOrNone};
 
 use posix_ere::{has_one_fault, has_one_tree};
 use submatch::laws::best_match;
@@ -29,6 +30,16 @@ pub fn one_reading()
 pub fn one_output()
     ensures output { OneOutput }
     ensures unmatched { UnmatchedHasNoOutput }
+{
+    has_one_tree();
+    best_match();
+}
+
+/// Each text is well formed or has a fault. A well-formed one has an output over an original string, or no match in it.
+pub fn output_or_none()
+    ensures formed { FormedOrFault }
+    ensures matched { OutputOrUnmatched }
+    ensures output { OutputOrNone }
 {
     has_one_tree();
     best_match();
