@@ -29,3 +29,8 @@ fn push_marked(bytes: &mut Vec<u8>, marked: &str) -> Result<(), AllocError> {
     }
     Ok(())
 }
+
+/// The place that a text tells.
+pub fn number(text: &str) -> usize {
+    text.parse().unwrap_or(0)
+}

@@ -11,6 +11,8 @@
 //! - `show FIELDS`: the fields as zone text
 //! - `at MESSAGE PLACE`, `within MESSAGE PLACE END`: the wire bytes of the name at that place of a message in hexadecimal, and the
 //!   place behind it, or the fault
+//! - `bare RDATA`: the fields of the rule of that RDATA, and whether it is written again as it was, or the fault
+//! - `in MESSAGE FROM TO`: the fields of the rule of the RDATA between those places of a message, or the fault
 //!
 //! In a text `<80>` is the byte of that hexadecimal number, and `<63*a>` is `a` 63 times. An empty field of a rule is `-`.
 //! The file stdout has the answers by RFC 1035, RFC 3403 and RFC 4343.
@@ -19,6 +21,7 @@
 mod bytes;
 mod messages;
 mod names;
+mod rdata;
 mod rules;
 
 use enum_base::MemoryFault;
@@ -37,6 +40,7 @@ fn main(rt: HostRuntime) -> io::Result<()> {
     names::laws();
     rules::laws();
     messages::laws();
+    rdata::laws();
     Ok(())
 }
 
@@ -44,6 +48,7 @@ fn answer(alloc: Global, line: &str) -> Result<String, MemoryFault> {
     let (verb, rest) = line.split_once(' ').unwrap_or((line, ""));
     match verb {
         "rdata" | "rank" | "rules" | "show" => rules::answer(alloc, verb, rest),
+        "bare" | "in" => rdata::answer(alloc, verb, rest),
         "at" | "within" => messages::answer(alloc, verb, rest),
         _ => names::answer(alloc, verb, rest),
     }

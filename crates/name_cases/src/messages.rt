@@ -13,10 +13,15 @@ pub fn answer(alloc: Global, verb: &str, rest: &str) -> Result<String, MemoryFau
         return Ok("no message".to_string(alloc)?);
     };
     match verb {
-        "at" => read_at(alloc, message.as_slice(), number(places)),
+        "at" => read_at(alloc, message.as_slice(), bytes::number(places)),
         _ => {
             let (at, to) = places.split_once(' ').unwrap_or((places, ""));
-            read_within(alloc, message.as_slice(), number(at), number(to))
+            read_within(
+                alloc,
+                message.as_slice(),
+                bytes::number(at),
+                bytes::number(to),
+            )
         }
     }
 }
@@ -25,10 +30,6 @@ pub fn answer(alloc: Global, verb: &str, rest: &str) -> Result<String, MemoryFau
 pub fn laws() {
     name_at_is_one();
     name_within_is_one();
-}
-
-fn number(text: &str) -> usize {
-    text.parse().unwrap_or(0)
 }
 
 fn read_at(alloc: Global, message: &[u8], at: usize) -> Result<String, MemoryFault> {

@@ -1,8 +1,13 @@
+pub mod BareLemmas
+pub mod BelowLemmas
 pub mod CutLemmas
 pub mod DecideLemmas
-pub mod BelowLemmas
+pub mod FieldLemmas
 pub mod FoldLemmas
-pub mod RisingLemmas
+pub mod InLemmas
 pub mod OfferLemmas
+pub mod PlaceLemmas
+pub mod RdataLemmas
+pub mod RisingLemmas
 pub mod RuleLemmas
 pub mod SomeLemmas

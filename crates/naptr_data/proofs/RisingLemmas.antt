@@ -17,7 +17,7 @@ turned one other e = rank_of-total.antisymm other one ∙ ap ordering_reverse e
 both_ways : (one other : Naptr) → rank_of one other ≡ Less → rank_of other one ≡ Less → ⊥
 both_ways one other e f = absurd (cc (sym e ∙ rank_of-total.antisymm one other ∙ ap ordering_reverse f))
 
-All-contained : (P : Naptr → Type 0) (xs : List Naptr) (x : Naptr) → AllByRecursion P xs → Contains xs x → P x
+pub All-contained : (P : Naptr → Type 0) (xs : List Naptr) (x : Naptr) → AllByRecursion P xs → Contains xs x → P x
 All-contained P [] x all (k, l, e) = absurd (omega arith)
 All-contained P (y ∷ xs) x all (zero, l, e) = subst P e all.0
 All-contained P (y ∷ xs) x all (suc k, l, e) = All-contained P xs x all.1 (k, omega arith, e)

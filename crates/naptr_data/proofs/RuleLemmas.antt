@@ -48,20 +48,20 @@ number_cmp-append n m us vs same =
     ∙ bytes_cmp-append (to_be_bytes w16 n) (to_be_bytes w16 n) us vs refl
     ∙ ap (λ o. ordering_then o (bytes_cmp us vs)) (tied_itself nat_list_cmp_total (to_be_bytes w16 n))
 
-abbrev from_regexp : Naptr → List ℕ
+abbrev pub from_regexp : Naptr → List ℕ
 from_regexp rule = string_wire rule.regexp ++ wire_of rule.replacement
 
-abbrev from_services : Naptr → List ℕ
+abbrev pub from_services : Naptr → List ℕ
 from_services rule = string_wire rule.services ++ from_regexp rule
 
-abbrev from_flags : Naptr → List ℕ
+abbrev pub from_flags : Naptr → List ℕ
 from_flags rule = string_wire rule.flags ++ from_services rule
 
-abbrev from_preference : Naptr → List ℕ
+abbrev pub from_preference : Naptr → List ℕ
 from_preference rule = to_be_bytes w16 rule.preference ++ from_flags rule
 
 -- the RDATA, one part before the rest
-rdata-parts : (rule : Naptr) → rdata rule ≡ to_be_bytes w16 rule.order ++ from_preference rule
+pub rdata-parts : (rule : Naptr) → rdata rule ≡ to_be_bytes w16 rule.order ++ from_preference rule
 rdata-parts rule = simp append_assoc
 
 -- what the fields answer one after another
@@ -108,7 +108,7 @@ pub rank_of-total : IsTotalOrder rank_of
 rank_of-total = then_total (on_total (λ (rule : Naptr). rule.order) nat_cmp_total) (then_total (on_total (λ (rule : Naptr). rule.preference) nat_cmp_total) (on_total rdata nat_list_cmp_total))
 
 -- lists that begin with parts of one length
-append_parts : (xs ys us vs : List ℕ) → length xs ≡ length ys → xs ++ us ≡ ys ++ vs → (xs ≡ ys) × (us ≡ vs)
+pub append_parts : (xs ys us vs : List ℕ) → length xs ≡ length ys → xs ++ us ≡ ys ++ vs → (xs ≡ ys) × (us ≡ vs)
 append_parts [] [] us vs same is = (refl, is)
 append_parts [] (y ∷ ys) us vs same is = absurd (omega (arith, same))
 append_parts (x ∷ xs) [] us vs same is = absurd (omega (arith, same))

@@ -6,9 +6,8 @@ use Rattle.std.specs.declared.cmp.Ordering.{Ordering}
 use Rattle.std.specs.declared.cmp.Ordering.TheVariants.{Less, Equal, Greater}
 use Rattle.std.proofs.lemmas.List.Elements.{Contains-append_cases}
 use Rattle.dns_name.specs.Name.{AreSame, IsBelow}
-use Rattle.naptr_data.specs.Laws.{HoldRules}
+use Rattle.naptr_data.specs.Laws.{RulesAreApart, HoldRules}
 use Rattle.naptr_data.specs.Rank.{rank_of}
-use Rattle.naptr_data.specs.Rdata.{IsRule}
 use Rattle.naptr_data.specs.Zones.{Labels, Item, Owned, Zone, Decides, NoneServes, IsDelegated, Exists, star, IsSource, StandsAt, IsFirstAlias, IsRising, IsOffer}
 use Rattle.naptr_data.specs.Zones.Item.{rule, alias, delegation, other}
 use Rattle.naptr_data.specs.declared.rule.Naptr.{Naptr}
@@ -158,11 +157,12 @@ has_alias (o ∷ items) name = next (alias_here o name) (has_alias items name)
     )
     next (inr not) (inr none) = inr (lacks_more o items name not none)
 
--- one more rule among rules in their order
-all_of : (P : Naptr → Type 0) (xs : List Naptr) → ((x : Naptr) → Contains xs x → P x) → AllByRecursion P xs
+-- what holds of each rule holds by recursion
+pub all_of : (P : Naptr → Type 0) (xs : List Naptr) → ((x : Naptr) → Contains xs x → P x) → AllByRecursion P xs
 all_of P [] h = tt
 all_of P (x ∷ xs) h = (h x (Contains-head x xs), all_of P xs (λ y c. h y (Contains-behind x xs y c)))
 
+-- one more rule among rules in their order
 all_before : (one next : Naptr) (rest : List Naptr) → rank_of one next ≡ Less → AllByRecursion (λ o. rank_of next o ≡ Less) rest → AllByRecursion (λ o. rank_of one o ≡ Less) rest
 all_before one next [] e h = tt
 all_before one next (o ∷ rest) e h = (rank_of-total.trans one next o e h.0, all_before one next rest e h.1)
@@ -174,20 +174,23 @@ pub record Inserts (one : Naptr) (rules : List Naptr) : Type 0 where
   pub new : List Naptr
   pub each : Inserted one rules new
   pub rising : IsRising new
-  pub fits : AllByRecursion IsRule new
 
-insert : (one : Naptr) (rules : List Naptr) → IsRule one → AllByRecursion IsRule rules → IsRising rules → Inserts one rules
-insert one [] is fits rising = record {
+-- rules of these that rank equal to one are it
+abbrev Apart : Naptr → List Naptr → Type 0
+Apart one rules = (next : Naptr) → Contains rules next → rank_of one next ≡ Equal → one ≡ next
+
+insert : (one : Naptr) (rules : List Naptr) → Apart one rules → IsRising rules → Inserts one rules
+insert one [] apart rising = record {
   new = one ∷ [];
   each = λ r. (λ c. head_or_behind one [] r c, λ h. put r h);
   rising = (tt, tt);
-  fits = (is, tt);
 }
   where
     put : (r : Naptr) → (r ≡ one) ⊎ Contains [] r → Contains (one ∷ []) r
     put r (inl e) = subst (λ x. Contains (one ∷ []) x) (sym e) (Contains-head one [])
     put r (inr c) = absurd (Contains-none r c)
-insert one (next ∷ rest) is fits rising = by_rank (rank_of one next) refl (insert one rest is fits.1 rising.1)
+insert one (next ∷ rest) apart rising =
+    by_rank (rank_of one next) refl (insert one rest (λ r c. apart r (Contains-behind next rest r c)) rising.1)
   where
     put : (r : Naptr) → (r ≡ one) ⊎ Contains (next ∷ rest) r → Contains (one ∷ (next ∷ rest)) r
     put r (inl e) = subst (λ x. Contains (one ∷ (next ∷ rest)) x) (sym e) (Contains-head one (next ∷ rest))
@@ -226,21 +229,18 @@ insert one (next ∷ rest) is fits rising = by_rank (rank_of one next) refl (ins
       new = one ∷ (next ∷ rest);
       each = λ r. (λ c. head_or_behind one (next ∷ rest) r c, λ h. put r h);
       rising = ((e, all_before one next rest e rising.0), rising);
-      fits = (is, fits);
     }
     by_rank Equal e i =
-        let same : one ≡ next = rank_of-equal one next is fits.0 e in
+        let same : one ≡ next = apart next (Contains-head next rest) e in
         record {
           new = next ∷ rest;
           each = λ r. (λ c. inr c, λ h. kept (sym same) r h);
           rising = rising;
-          fits = fits;
         }
     by_rank Greater e i = record {
       new = next ∷ i.new;
       each = λ r. (λ c. out i.new i.each r (head_or_behind next i.new r c), λ h. into i.new i.each r h);
       rising = (all_of (λ o. rank_of next o ≡ Less) i.new (later e i.new i.each), i.rising);
-      fits = (fits.0, i.fits);
     }
 
 -- an item is a rule at a name, or no rule of it is
@@ -275,22 +275,28 @@ pub record HasRules (items : List Owned) (name : Labels) : Type 0 where
   pub rules : List Naptr
   pub each : (r : Naptr) → Contains rules r ↔ StandsAt items name (rule r)
   pub rising : IsRising rules
-  pub fits : AllByRecursion IsRule rules
 
-has_rules : (items : List Owned) (name : Labels) → ((owner : Labels) (r : Naptr) → Contains items (record { owner = owner; item = rule r }) → IsRule r) → HasRules items name
-has_rules [] name are = record {
+-- rules that stand at a name and rank equal are one
+abbrev AreApart : List Owned → Labels → Type 0
+AreApart items name =
+    (one other : Naptr) → StandsAt items name (rule one) → StandsAt items name (rule other) → rank_of one other ≡ Equal → one ≡ other
+
+has_rules : (items : List Owned) (name : Labels) → AreApart items name → HasRules items name
+has_rules [] name apart = record {
   rules = [];
   each = λ r. (λ c. absurd (Contains-none r c), λ s. none r s);
   rising = tt;
-  fits = tt;
 }
   where
     none : (r : Naptr) → StandsAt [] name (rule r) → Contains [] r
     none r (owner, c, same) = absurd (Contains-none {X = Owned} (record { owner = owner; item = rule r }) c)
-has_rules (o ∷ items) name are = next (rule_here o name) (has_rules items name (λ owner r c. are owner r (Contains-behind o items (record { owner = owner; item = rule r }) c)))
+has_rules (o ∷ items) name apart =
+    next (rule_here o name)
+    (has_rules items name (λ one other h k e. apart one other (stands_behind o items name one h) (stands_behind o items name other k) e))
   where
-    is_rule : (r : Naptr) → RuleHere o name r → IsRule r
-    is_rule r h = are o.owner r (subst (λ (i : Item). Contains (o ∷ items) (record { owner = o.owner; item = i })) h.0 (Contains-head o items))
+    from_others : (one : Naptr) → RuleHere o name one → (h : HasRules items name) → Apart one h.rules
+    from_others one here h r c e =
+        apart one r (stands_here o items name one here) (stands_behind o items name r ((h.each r).0 c)) e
 
     only : (one : Naptr) → RuleHere o name one → (r : Naptr) → RuleHere o name r → r ≡ one
     only one h r g = let e : rule r ≡ rule one = sym g.0 ∙ h.0 in cc
@@ -309,11 +315,10 @@ has_rules (o ∷ items) name are = next (rule_here o name) (has_rules items name
         ],
       );
       rising = i.rising;
-      fits = i.fits;
     }
 
     next : ((r : Naptr) × RuleHere o name r) ⊎ ((r : Naptr) → RuleHere o name r → ⊥) → HasRules items name → HasRules (o ∷ items) name
-    next (inl (one, here)) h = more one here h (insert one h.rules (is_rule one here) h.fits h.rising)
+    next (inl (one, here)) h = more one here h (insert one h.rules (from_others one here h) h.rising)
     next (inr not) h = record {
       rules = h.rules;
       each = λ r. (
@@ -321,29 +326,33 @@ has_rules (o ∷ items) name are = next (rule_here o name) (has_rules items name
         λ s. elim (stands_parts o items name r s) [ inl g ↦ absurd (not r g) | inr d ↦ (h.each r).1 d ],
       );
       rising = h.rising;
-      fits = h.fits;
     }
 
 -- a zone that decides offers what stands at the source
 abbrev Offered : List Zone → Labels → Type 0
 Offered zones name = (o : Offer) × IsOffer zones name o
 
-from_source : (zones : List Zone) (name : Labels) (zone : Zone) (source : Labels) → Decides zones name zone → ¬ IsDelegated zone name → IsSource zone name source → HoldRules zones → HasAlias zone.items source → Offered zones name
-from_source zones name zone source d not is hold (inl (target, first)) =
+from_source : (zones : List Zone) (name : Labels) (zone : Zone) (source : Labels) → Decides zones name zone → ¬ IsDelegated zone name → IsSource zone name source → RulesAreApart zones → HasAlias zone.items source → Offered zones name
+from_source zones name zone source d not is apart (inl (target, first)) =
     (offer.Alias target, (zone, source, (d, not, is), first))
-from_source zones name zone source d not is hold (inr none) =
-    let r = has_rules zone.items source (λ owner r c. hold zone owner r (decides_among zones name zone d) c) in
+from_source zones name zone source d not is apart (inr none) =
+    let r = has_rules zone.items source (λ one other h k e. apart zone source one other (decides_among zones name zone d) h k e) in
     (offer.Rules r.rules, (zone, source, (d, not, is), record { none = none; each = r.each; rising = r.rising }))
 
-from_zone : (zones : List Zone) (name : Labels) (zone : Zone) → Decides zones name zone → HoldRules zones → Either (IsDelegated zone name) → Offered zones name
-from_zone zones name zone d hold (inl delegated) = (offer.Unserved, inr (zone, d, delegated))
-from_zone zones name zone d hold (inr not) =
+from_zone : (zones : List Zone) (name : Labels) (zone : Zone) → Decides zones name zone → RulesAreApart zones → Either (IsDelegated zone name) → Offered zones name
+from_zone zones name zone d apart (inl delegated) = (offer.Unserved, inr (zone, d, delegated))
+from_zone zones name zone d apart (inr not) =
     let s = has_source zone name d.above in
-    from_source zones name zone s.0 d not s.1 hold (has_alias zone.items s.0)
+    from_source zones name zone s.0 d not s.1 apart (has_alias zone.items s.0)
 
-pub some_offer : (zones : List Zone) (name : Labels) → HoldRules zones → Offered zones name
-some_offer zones name hold = next (has_deciding zones name)
+pub some_offer : (zones : List Zone) (name : Labels) → RulesAreApart zones → Offered zones name
+some_offer zones name apart = next (has_deciding zones name)
   where
     next : HasDeciding zones name → Offered zones name
     next (inl none) = (offer.Unserved, inl none)
-    next (inr (zone, d)) = from_zone zones name zone d hold (delegated_or_not zone name)
+    next (inr (zone, d)) = from_zone zones name zone d apart (delegated_or_not zone name)
+
+-- rules with their fields in range are apart
+pub rules_apart : (zones : List Zone) → HoldRules zones → RulesAreApart zones
+rules_apart zones hold zone name one two among h k e =
+    rank_of-equal one two (hold zone h.0 one among h.1) (hold zone k.0 two among k.1) e

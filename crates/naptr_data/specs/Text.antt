@@ -16,7 +16,7 @@ quoted_byte byte =
 abbrev pub quoted : List ℕ → List ℕ
 quoted text = 34 ∷ (flat_map quoted_byte text ++ 34 ∷ [])
 
--- the six fields, each after one space
+-- the six fields, with one space between them
 abbrev pub fields_text : Naptr → List ℕ
 fields_text rule =
     decimal rule.order ++ codes " " ++ decimal rule.preference ++ codes " " ++ quoted rule.flags ++ codes " " ++ quoted rule.services ++ codes " " ++ quoted rule.regexp ++ codes " " ++ text_of rule.replacement

@@ -9,11 +9,14 @@ use itoa::Buffer as Digits;
 // Two numbers of at most five digits, three texts of at most 1,022 bytes, a name of at most 1,024, and five spaces.
 type FieldsText = Buffer<4110>;
 
+/// A character-string in quotes, at most 1,022 bytes: it has at most 255, and each is written as at most four.
+pub type QuotedText = Buffer<1022>;
+
 impl Naptr {
     ghost use Rattle.naptr_data.specs.Text.{fields_text};
 
-    /// Appends the six fields as a zone text has them, each after one space: the two numbers, the three texts in quotes, the name
-    /// as it stands. Between quotes `"` and `\` have a `\` before them, and bytes outside 0x20 to 0x7E are `\DDD`.
+    /// Appends the six fields as a zone text has them, with one space between them: the two numbers, the three texts in quotes, the
+    /// name as it stands. Between quotes `"` and `\` have a `\` before them, and bytes outside 0x20 to 0x7E are `\DDD`.
     pub fn to_text(&self, out: &mut Bytes) -> Result<(), MemoryFault>
         ensures ok { OnOk result (out.new ≡ out.old ++ fields_text self.now) }
         ensures err { OnErr result (out.new ≡ out.old) }
@@ -46,16 +49,27 @@ fn push_quoted(text: &mut FieldsText, string: &Text255)
     ensures value { text.new ≡ text.old ++ quoted string.now ++ codes " " }
     ensures size { length text.new ≤ length text.old + 1023 }
 {
+    text.push_slice(quoted(string).as_slice());
+    text.push(b' ');
+}
+
+/// The character-string in quotes, as a zone text has it: `"` and `\` have a `\` before them, and bytes outside 0x20 to 0x7E are
+/// `\DDD`.
+pub fn quoted(string: &Text255) -> QuotedText
+    ensures { result ≡ quoted string.now }
+{
+    let mut text = QuotedText::new();
     text.push(b'"');
     for byte in string.as_bytes() {
-        push_quoted_byte(text, *byte);
+        push_quoted_byte(&mut text, *byte);
     }
-    text.push_slice(b"\" ");
+    text.push(b'"');
+    text
 }
 
 // A byte between quotes.
-fn push_quoted_byte(text: &mut FieldsText, byte: u8)
-    requires { length text.old + 4 ≤ 4110 }
+fn push_quoted_byte(text: &mut QuotedText, byte: u8)
+    requires { length text.old + 4 ≤ 1022 }
     ensures value { text.new ≡ text.old ++ quoted_byte byte }
     ensures size { length text.new ≤ length text.old + 4 }
 {

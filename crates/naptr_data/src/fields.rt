@@ -1,0 +1,76 @@
+//! The fields of RDATA in a message. Each is read at a place, and lies before `to`, where the RDATA ends.
+ghost use Rattle.std.specs.Prelude.{◌<◌, ◌≤◌, length, IfOk};
+ghost use Rattle.naptr_data.specs.Fields.{NumberIn, TextIn, NameIn, EndsIn};
+
+use crate::in_fault::InFault;
+use dns_name::Name;
+use enum_base::Text255;
+
+/// The number of 16 bits at that place, the high byte first, and the place behind it.
+///
+/// # Errors
+/// `Shape` at its place where its two bytes do not lie before `to`.
+pub fn number_in(message: &[u8], at: usize, to: usize) -> Result<(u16, usize), InFault>
+    requires begin { at ≤ to }
+    requires end { to ≤ length message.now }
+    ensures number { NumberIn message.now to at result }
+    ensures within { IfOk result (λ read. (at < read.1) × (read.1 ≤ to)) }
+{
+    if to - at < 2 {
+        return Err(InFault::Shape { at });
+    }
+    let number = u16::from_be_bytes([message[at], message[at + 1]]);
+    Ok((number, at + 2))
+}
+
+/// The character-string at that place, a length byte and as many bytes (RFC 1035, 3.3), and the place behind it.
+///
+/// # Errors
+/// `Shape` at its place where its length byte, or one of the bytes that this counts, does not lie before `to`.
+pub fn text_in(message: &[u8], at: usize, to: usize) -> Result<(Text255, usize), InFault>
+    requires begin { at ≤ to }
+    requires end { to ≤ length message.now }
+    ensures text { TextIn message.now to at result }
+    ensures within { IfOk result (λ read. (at < read.1) × (read.1 ≤ to)) }
+{
+    let room = to - at;
+    if room == 0 {
+        return Err(InFault::Shape { at });
+    }
+    let size = usize::from(message[at]);
+    if room <= size {
+        return Err(InFault::Shape { at });
+    }
+    let end = at + 1 + size;
+    let Some(text) = Text255::from_bytes(&message[at + 1..end]) else {
+        return Err(InFault::Shape { at });
+    };
+    Ok((text, end))
+}
+
+/// The name at that place, whose first label run lies before `to`, and the place behind it (RFC 1035, 4.1.4).
+///
+/// # Errors
+/// `Shape` at the label or pointer of the first run that does not lie wholly before `to`; `Name` where the name is broken otherwise.
+pub fn name_in(message: &[u8], at: usize, to: usize) -> Result<(Name, usize), InFault>
+    requires begin { at ≤ to }
+    requires end { to ≤ length message.now }
+    ensures name { NameIn message.now to at result }
+    ensures within { IfOk result (λ read. (at < read.1) × (read.1 ≤ to)) }
+{
+    Ok(Name::read_within(message, at, to)?)
+}
+
+/// The value whose last field ends at that place.
+///
+/// # Errors
+/// `Shape` at that place where bytes are left before `to`.
+pub fn ends_in<T: Drop>(value: T, at: usize, to: usize) -> Result<T, InFault>
+    requires { at ≤ to }
+    ensures { EndsIn to value at result }
+{
+    if at < to {
+        return Err(InFault::Shape { at });
+    }
+    Ok(value)
+}
