@@ -22,3 +22,6 @@ pub mod FollowLemmas
 pub mod UriLemmas
 pub mod Entering
 pub mod Whole
+pub mod Deciding
+pub mod Following
+pub mod SomeReport

@@ -5,10 +5,9 @@ use Rattle.std.specs.List.{AllByRecursion, sum_by}
 use Rattle.std.proofs.lemmas.List.{map-append, length-map, length-drop}
 use Rattle.std.proofs.lemmas.List.Sums.{sum_by-append}
 use Rattle.std.proofs.lemmas.Option.{slice_get_within, slice_get_cases}
-use Rattle.naptr_data.specs.Zones.{Labels, Zone}
+use Rattle.naptr_data.specs.Zones.{Labels}
 use Rattle.naptr_data.specs.declared.rule.Naptr.{Naptr}
-use Rattle.ddds_walk.specs.Rules.{Client}
-use Rattle.ddds_walk.specs.Turns.{IsSound, IsPast, IsWay, left_at, left_in, IsAt, IsNextEnd, HasMoved}
+use Rattle.ddds_walk.specs.Turns.{IsSound, IsPast, IsWay, left_at, left_in, IsNextEnd, HasMoved}
 use Rattle.ddds_walk.specs.Ways.{path_of, domains_of}
 use Rattle.ddds_walk.specs.declared.edge.Edge.{Edge}
 use Rattle.ddds_walk.specs.declared.edge.Edge.TheVariants.{Step, Stop}

@@ -17,7 +17,7 @@ use Rattle.ddds_walk.specs.Ways.{IsState, path_of, domains_of}
 use Rattle.ddds_walk.specs.declared.edge.Edge.{Edge}
 use Rattle.ddds_walk.specs.declared.edge.Edge.TheVariants.{Step, Stop}
 use Rattle.ddds_walk.specs.declared.fault.WalkFault.{WalkFault}
-use Rattle.ddds_walk.specs.declared.fault.WalkFault.TheVariants.{Limit, Trouble, Memory}
+use Rattle.ddds_walk.specs.declared.fault.WalkFault.TheVariants.{Limit, Trouble}
 use Rattle.ddds_walk.specs.declared.frame.Frame.{Frame}
 use Rattle.ddds_walk.specs.declared.report.End.{End}
 use Rattle.ddds_walk.specs.declared.report.Outcome.{Outcome}

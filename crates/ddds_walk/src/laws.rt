@@ -1,13 +1,16 @@
 //! Laws of reports, loops and needed domains, each the contract of a function that does nothing.
 ghost use Rattle.std.specs.Prelude.{◌≡◌, ◌≤◌, ◌+◌, ℕ, List, length, Contains};
+ghost use Rattle.naptr_data.specs.Laws.{RulesAreApart, HoldRules};
 ghost use Rattle.naptr_data.specs.Zones.{Labels, Zone, rules_and_aliases};
 ghost use Rattle.ddds_walk.specs.Graph.{graph_of, Leads};
 ghost use Rattle.ddds_walk.specs.Rules.{Client};
-ghost use Rattle.ddds_walk.specs.Report.{IsReport, IsLeastLoop, HasNoLoop, IsNeeded, AreSomeNeeded, AreNeeded};
+ghost use Rattle.ddds_walk.specs.Report.{IsReport, IsLeastLoop, HasNoLoop, Answers};
+ghost use Rattle.ddds_walk.specs.Report.{IsNeeded, AreSomeNeeded, AreNeeded};
 ghost use Rattle.ddds_walk.specs.declared.report.End.{End};
+ghost use Rattle.ddds_walk.specs.declared.report.Report.{Report};
 
-use naptr_data::one_offer;
-use subst_expr::laws::one_output;
+use naptr_data::{one_offer, some_offer};
+use subst_expr::laws::{one_output, output_or_none};
 
 /// There is at most one report.
 pub fn one_report()
@@ -26,6 +29,20 @@ pub fn one_loop()
 {
     one_offer();
     one_output();
+}
+
+/// Over zones in which no two rules at one name rank equal, and so over those whose rules have their fields in range, there
+/// is an answer: the report where no derivation is a loop, or the least loop.
+pub fn some_report()
+    ensures apart { (c : Client) (zones : List Zone) (key : Labels) → RulesAreApart zones →
+        (report : Report) × Answers c zones key report }
+    ensures rules { (c : Client) (zones : List Zone) (key : Labels) → HoldRules zones →
+        (report : Report) × Answers c zones key report }
+{
+    one_offer();
+    some_offer();
+    one_output();
+    output_or_none();
 }
 
 /// Where there is no loop, the needed domains are all to which some derivation leads.

@@ -15,6 +15,8 @@ mod walker;
 mod walking;
 
 pub use fault::WalkFault;
-pub use laws::{all_needed, loop_needed, needed_bound, needed_count, one_loop, one_report};
+pub use laws::{
+    all_needed, loop_needed, needed_bound, needed_count, one_loop, one_report, some_report,
+};
 pub use report::{End, Ends, LoopPath, Outcome, Report};
 pub use walking::walk;

@@ -1,0 +1,223 @@
+-- Each rule gives an edge, or none.
+use Rattle.std.proofs.Common.{◌≡◌, ◌⊎◌, inl, inr, ℕ, ◌<◌, ◌≤◌, ◌==◌, Bool, true, false, not, List, [], ◌∷◌, ◌++◌, length, Some, Result, Ok, Err, refl, ap, subst, arith}
+use Rattle.std.proofs.lemmas.Bool.Decides.{nat_tests}
+use Rattle.std.proofs.lemmas.Bool.{eqb-true}
+use Rattle.std.proofs.lemmas.List.Sums.{list_all-from_AllPass, AllPass-from_list_all}
+use Rattle.std.specs.Char.{is_ascii_alphabetic}
+use Rattle.std.specs.List.{AllPass, list_all}
+use Rattle.dns_name.specs.Name.{folded_labels}
+use Rattle.dns_name.specs.Reading.{name_of}
+use Rattle.dns_name.specs.declared.fault.NameFault.{NameFault}
+use Rattle.naptr_data.proofs.DecideLemmas.{Either}
+use Rattle.naptr_data.specs.Zones.{Labels}
+use Rattle.naptr_data.specs.declared.rule.Naptr.{Naptr}
+use Rattle.service_field.specs.declared.kind.Kind.{Kind}
+use Rattle.service_field.specs.declared.kind.Kind.TheVariants as kind
+use Rattle.subst_expr.specs.Laws.{OneOutput, OutputOrNone}
+use Rattle.subst_expr.specs.Output.{IsOutput}
+use Rattle.ddds_walk.specs.Rules.{Client, HasOutput, IsUri, HasRegexp, HasReplacement, GivesName, HasFields, HasServices, Yields, GivesAs, IsAdmissible, is_scheme_byte, is_visible}
+use Rattle.ddds_walk.specs.declared.edge.Edge.{Edge}
+use Rattle.ddds_walk.specs.declared.edge.Edge.TheVariants.{Step, Stop}
+use Rattle.ddds_walk.specs.declared.report.Outcome.TheVariants.{Uri, Target, Unserved}
+use Rattle.ddds_walk.proofs.GiftLemmas.{no_name, no_step, no_uri}
+use Rattle.ddds_walk.proofs.UriLemmas.{IsScheme, IsRest, uri_cut, uri_made, uri_none}
+
+-- both of two facts, or not
+both : {P Q : Type 0} → Either P → Either Q → Either (P × Q)
+both (inl p) (inl q) = inl (p, q)
+both (inl p) (inr not_q) = inr (λ h. not_q h.1)
+both (inr not_p) q = inr (λ h. not_p h.0)
+
+-- one of two facts, or neither
+one_of : {P Q : Type 0} → Either P → Either Q → Either (P ⊎ Q)
+one_of (inl p) q = inl (inl p)
+one_of (inr not_p) (inl q) = inl (inr q)
+one_of {P} {Q} (inr not_p) (inr not_q) = inr neither
+  where
+    neither : P ⊎ Q → ⊥
+    neither (inl p) = not_p p
+    neither (inr q) = not_q q
+
+opposite : {P : Type 0} → Either P → Either (P → ⊥)
+opposite (inl p) = inr (λ h. h p)
+opposite (inr not_p) = inl not_p
+
+is_true : (t : Bool) → Either (t ≡ true)
+is_true true = inl refl
+is_true false = inr (λ e. cc)
+
+is_empty : {X : Type 0} → (xs : List X) → Either (xs ≡ [])
+is_empty [] = inl refl
+is_empty (x ∷ xs) = inr (λ e. cc)
+
+less_or_not : (n m : ℕ) → Either (n < m)
+less_or_not n m = grind (arith, nat_tests)
+
+pub at_most_or_not : (n m : ℕ) → Either (n ≤ m)
+at_most_or_not n m = grind (arith, nat_tests)
+
+all_pass : {X : Type 0} → (p : X → Bool) (xs : List X) → Either (AllPass p xs)
+all_pass p xs = by (is_true (list_all p xs))
+  where
+    by : Either (list_all p xs ≡ true) → Either (AllPass p xs)
+    by (inl e) = inl (AllPass-from_list_all p xs e)
+    by (inr no_all) = inr (λ h. no_all (list_all-from_AllPass p xs h))
+
+-- bytes are cut at a first colon, or have none
+abbrev IsCut : List ℕ → Type 0
+IsCut bytes = (front back : List ℕ) × (bytes ≡ front ++ 58 ∷ back) × (list_all (λ b. not (b == 58)) front ≡ true)
+
+cut_or_plain : (bytes : List ℕ) → IsCut bytes ⊎ (list_all (λ b. not (b == 58)) bytes ≡ true)
+cut_or_plain [] = inr refl
+cut_or_plain (b ∷ bytes) = by (b == 58) refl (cut_or_plain bytes)
+  where
+    by : (t : Bool) → (b == 58) ≡ t → IsCut bytes ⊎ (list_all (λ b. not (b == 58)) bytes ≡ true)
+        → IsCut (b ∷ bytes) ⊎ (list_all (λ b. not (b == 58)) (b ∷ bytes) ≡ true)
+    by true e h = inl ([], bytes, ap (λ c. c ∷ bytes) (eqb-true b 58 e), refl)
+    by false e (inl (front, back, is, plain)) = inl (b ∷ front, back, ap (λ r. b ∷ r) is, rw (e, plain) refl)
+    by false e (inr plain) = inr (rw (e, plain) refl)
+
+scheme_or_not : (bytes : List ℕ) → Either (IsScheme bytes)
+scheme_or_not [] = inr none
+  where
+    none : IsScheme [] → ⊥
+    none (first, rest, is, letter, all) = cc
+scheme_or_not (b ∷ bytes) = by (is_true (is_ascii_alphabetic b)) (all_pass is_scheme_byte bytes)
+  where
+    same : (first : ℕ) (rest : List ℕ) → b ∷ bytes ≡ first ∷ rest → (first ≡ b) × (rest ≡ bytes)
+    same first rest e = (cc, cc)
+
+    letter_of : IsScheme (b ∷ bytes) → is_ascii_alphabetic b ≡ true
+    letter_of (first, rest, is, letter, all) = subst (λ x. is_ascii_alphabetic x ≡ true) (same first rest is).0 letter
+
+    all_of : IsScheme (b ∷ bytes) → AllPass is_scheme_byte bytes
+    all_of (first, rest, is, letter, all) = subst (λ x. AllPass is_scheme_byte x) (same first rest is).1 all
+
+    by : Either (is_ascii_alphabetic b ≡ true) → Either (AllPass is_scheme_byte bytes) → Either (IsScheme (b ∷ bytes))
+    by (inl letter) (inl all) = inl (b, bytes, refl, letter, all)
+    by (inl letter) (inr no_all) = inr (λ h. no_all (all_of h))
+    by (inr no_letter) all = inr (λ h. no_letter (letter_of h))
+
+uri_or_not : (bytes : List ℕ) → Either (IsUri bytes)
+uri_or_not bytes = by (cut_or_plain bytes)
+  where
+    halves : (front back : List ℕ) → bytes ≡ front ++ 58 ∷ back → list_all (λ b. not (b == 58)) front ≡ true
+        → Either (IsScheme front × IsRest back) → Either (IsUri bytes)
+    halves front back is plain (inl (scheme, rest)) = inl (uri_made bytes front back is scheme rest)
+    halves front back is plain (inr no_parts) =
+        inr (λ u. no_parts (uri_cut bytes front back is (AllPass-from_list_all (λ b. not (b == 58)) front plain) u))
+
+    by : IsCut bytes ⊎ (list_all (λ b. not (b == 58)) bytes ≡ true) → Either (IsUri bytes)
+    by (inl (front, back, is, plain)) =
+        halves front back is plain (both (scheme_or_not front) (both (less_or_not 0 (length back)) (all_pass is_visible back)))
+    by (inr plain) = inr (λ u. uri_none bytes (AllPass-from_list_all (λ b. not (b == 58)) bytes plain) u)
+
+regexp_or_not : (rule : Naptr) → Either (HasRegexp rule)
+regexp_or_not rule = both (opposite (is_empty rule.regexp)) (is_empty rule.replacement)
+
+replacement_or_not : (rule : Naptr) → Either (HasReplacement rule)
+replacement_or_not rule = both (is_empty rule.regexp) (opposite (is_empty rule.replacement))
+
+module _ (one : OneOutput) (some : OutputOrNone) where
+  -- a rule has an output, or none
+  output_or_not : (rule : Naptr) (string : List ℕ) → Either ((bytes : List ℕ) × HasOutput rule string bytes)
+  output_or_not rule string = by (some rule.regexp string)
+    where
+      sized : (bytes : List ℕ) → IsOutput rule.regexp string bytes → Either ((0 < length bytes) × (length bytes ≤ 1024))
+          → Either ((bytes : List ℕ) × HasOutput rule string bytes)
+      sized bytes is (inl (more, few)) = inl (bytes, record { output = is; some = more; most = few })
+      sized bytes is (inr no_size) = inr other
+        where
+          other : (others : List ℕ) × HasOutput rule string others → ⊥
+          other (others, h) =
+              let same : others ≡ bytes = one rule.regexp string others bytes h.output is in
+              no_size (subst (λ x. (0 < length x) × (length x ≤ 1024)) same (h.some, h.most))
+
+      by : ((bytes : List ℕ) × IsOutput rule.regexp string bytes) ⊎ ((bytes : List ℕ) → IsOutput rule.regexp string bytes → ⊥)
+          → Either ((bytes : List ℕ) × HasOutput rule string bytes)
+      by (inl (bytes, is)) = sized bytes is (both (less_or_not 0 (length bytes)) (at_most_or_not (length bytes) 1024))
+      by (inr none) = inr (λ h. none h.0 h.1.output)
+
+  -- REGEXP gives a domain, or none
+  name_or_not : (rule : Naptr) (string : List ℕ) → Either ((domain : Labels) × GivesName rule string domain)
+  name_or_not rule string = by (output_or_not rule string)
+    where
+      read : (bytes : List ℕ) → HasOutput rule string bytes → (r : Result Labels NameFault) → name_of bytes (Some []) ≡ r
+          → Either ((domain : Labels) × GivesName rule string domain)
+      read bytes h (Ok labels) e = inl (folded_labels labels, (bytes, labels, h, e, refl))
+      read bytes h (Err fault) e = inr (λ g. no_name one rule string bytes fault h e g.0 g.1)
+
+      none : (((bytes : List ℕ) × HasOutput rule string bytes) → ⊥) → (domain : Labels) × GivesName rule string domain → ⊥
+      none no_bytes (domain, (bytes, labels, h, e, is)) = no_bytes (bytes, h)
+
+      by : Either ((bytes : List ℕ) × HasOutput rule string bytes) → Either ((domain : Labels) × GivesName rule string domain)
+      by (inl (bytes, h)) = read bytes h (name_of bytes (Some [])) refl
+      by (inr no_bytes) = inr (none no_bytes)
+
+  module _ (c : Client) (rule : Naptr) where
+    -- a rule gives something as a kind says, or not
+    abbrev GivesSome : Kind → Type 0
+    GivesSome k = (edge : Edge) × GivesAs k c rule edge
+
+    no_fields : (k : Kind) → (HasFields k c.steps_by_regexp rule → ⊥) → Either (GivesSome k)
+    no_fields k none = inr (λ h. none h.1.fields)
+
+    no_services : (k : Kind) → (HasServices k c rule → ⊥) → Either (GivesSome k)
+    no_services k none = inr (λ h. none h.1.services)
+
+    step_by_name : HasServices kind.Step c rule → (HasReplacement rule → ⊥)
+        → Either ((c.steps_by_regexp ≡ true) × HasRegexp rule) → Either ((domain : Labels) × GivesName rule c.string domain)
+        → Either (GivesSome kind.Step)
+    step_by_name services no_replacement (inr no_regexp) name = inr (λ h. fields h.1.fields)
+      where
+        fields : HasFields kind.Step c.steps_by_regexp rule → ⊥
+        fields (inl h) = no_replacement h
+        fields (inr h) = no_regexp h
+    step_by_name services no_replacement (inl regexp) (inl (domain, gives)) =
+        inl (Step domain, record { fields = inr regexp; services = services; yields = inr (regexp.1, gives) })
+    step_by_name services no_replacement (inl regexp) (inr no_domain) =
+        inr (λ h. no_step c rule no_replacement (λ domain g. no_domain (domain, g)) h.0 h.1)
+
+    step_or_none : Either (HasServices kind.Step c rule) → Either (HasReplacement rule) → Either (GivesSome kind.Step)
+    step_or_none (inr none) replacement = no_services kind.Step none
+    step_or_none (inl services) (inl replacement) =
+        inl (Step (folded_labels rule.replacement), record { fields = inl replacement; services = services; yields = inl (replacement, refl) })
+    step_or_none (inl services) (inr none) =
+        step_by_name services none (both (is_true c.steps_by_regexp) (regexp_or_not rule)) (name_or_not rule c.string)
+
+    uri_of : HasRegexp rule → c.serves rule.services ≡ true → (bytes : List ℕ) → HasOutput rule c.string bytes → Either (IsUri bytes)
+        → Either (GivesSome kind.TerminalUri)
+    uri_of regexp services bytes h (inl uri) =
+        inl (Stop rule (Uri bytes), record { fields = regexp; services = services; yields = (refl, h, uri) })
+    uri_of regexp services bytes h (inr none) = inr (λ g. no_uri one c rule bytes h none g.0 g.1)
+
+    no_bytes : (((bytes : List ℕ) × HasOutput rule c.string bytes) → ⊥) → (edge : Edge) → Yields kind.TerminalUri c rule edge → ⊥
+    no_bytes none (Step domain) y = y
+    no_bytes none (Stop r (Uri bytes)) (same, h, uri) = none (bytes, h)
+    no_bytes none (Stop r (Target l name)) y = y
+    no_bytes none (Stop r Unserved) y = y
+
+    uri_or_none : Either (HasRegexp rule) → Either (c.serves rule.services ≡ true)
+        → Either ((bytes : List ℕ) × HasOutput rule c.string bytes) → Either (GivesSome kind.TerminalUri)
+    uri_or_none (inr none) services output = no_fields kind.TerminalUri none
+    uri_or_none (inl regexp) (inr none) output = no_services kind.TerminalUri none
+    uri_or_none (inl regexp) (inl services) (inl (bytes, h)) = uri_of regexp services bytes h (uri_or_not bytes)
+    uri_or_none (inl regexp) (inl services) (inr none) = inr (λ g. no_bytes none g.0 g.1.yields)
+
+    target_or_none : (l : ℕ) → Either (HasReplacement rule) → Either (c.serves rule.services ≡ true) → Either (GivesSome (kind.TerminalName l))
+    target_or_none l (inr none) services = no_fields (kind.TerminalName l) none
+    target_or_none l (inl replacement) (inr none) = no_services (kind.TerminalName l) none
+    target_or_none l (inl replacement) (inl services) =
+        inl (Stop rule (Target l rule.replacement), record { fields = replacement; services = services; yields = (refl, refl, refl) })
+
+    gives_or_none : (k : Kind) → Either (GivesSome k)
+    gives_or_none kind.Step =
+        step_or_none (one_of (is_true (c.serves rule.services)) (is_empty rule.services)) (replacement_or_not rule)
+    gives_or_none kind.TerminalUri =
+        uri_or_none (regexp_or_not rule) (is_true (c.serves rule.services)) (output_or_not rule c.string)
+    gives_or_none (kind.TerminalName l) = target_or_none l (replacement_or_not rule) (is_true (c.serves rule.services))
+    gives_or_none kind.Unknown = no_fields kind.Unknown (λ h. h)
+
+    -- a rule is admissible, or not
+    pub admissible_or_not : Either (IsAdmissible c rule)
+    admissible_or_not = gives_or_none (c.kind rule.flags)
