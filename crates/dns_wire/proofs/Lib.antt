@@ -1,0 +1,17 @@
+pub mod ContentLemmas
+pub mod ContentStands
+pub mod EncodeLemmas
+pub mod FieldLemmas
+pub mod FieldStands
+pub mod FrameLemmas
+pub mod ItemLemmas
+pub mod LawLemmas
+pub mod MemoryLemmas
+pub mod MessageLemmas
+pub mod MessageStands
+pub mod ReadingLemmas
+pub mod RecordLemmas
+pub mod StandLemmas
+pub mod StepLemmas
+pub mod TextLawLemmas
+pub mod TextLemmas

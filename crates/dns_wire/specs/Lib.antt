@@ -1,2 +1,13 @@
+pub mod Contents
+pub mod Counts
+pub mod DecodeFaults
+pub mod Encoding
+pub mod Forms
+pub mod Frames
+pub mod Framing
 pub mod Kinds
+pub mod Laws
+pub mod Message
+pub mod Outcome
+pub mod Ranges
 pub mod Rdata

@@ -1,8 +1,10 @@
 //! What records say.
-ghost use Rattle.std.specs.Prelude.{◌≡◌, ◌++◌, IfOk, OnOk};
-ghost use Rattle.std.specs.List.{flat_map};
-ghost use Rattle.naptr_data.specs.Rdata.{string_wire};
+ghost use Rattle.std.specs.Prelude.{◌≡◌, ◌≤◌, ◌+◌, ◌++◌, length, IfOk, OnOk, OnErr};
+ghost use Rattle.std.specs.List.{AllByRecursion, flat_map};
+ghost use Rattle.naptr_data.specs.Rdata.{string_wire, rdata, IsRule};
+ghost use Rattle.dns_wire.specs.Ranges.{AreBytes, IsText};
 
+use crate::target::{Target, append_u16, append_u32};
 use dns_name::Name;
 use enum_base::{Bytes, List, MemoryFault, Text255};
 use naptr_data::Naptr;
@@ -58,6 +60,7 @@ pub enum Content {
 impl Content {
     ghost use Rattle.dns_wire.specs.Kinds.{kind_of};
     ghost use Rattle.dns_wire.specs.Rdata.{rdata_of};
+    ghost use Rattle.dns_wire.specs.Ranges.{IsContent};
 
     /// The RDATA, names without compression.
     pub fn rdata(&self, alloc: Global) -> Result<Bytes, MemoryFault>
@@ -69,29 +72,31 @@ impl Content {
     }
 
     // Appends the RDATA.
-    fn write(&self, out: &mut Bytes) -> Result<(), MemoryFault>
-        ensures { OnOk result (out.new ≡ out.old ++ rdata_of self.now) }
+    pub(crate) fn write<T: Target>(&self, out: &mut T) -> Result<(), T::Fault>
+        ensures ok { OnOk result (T.bytes out.new ≡ T.bytes out.old ++ rdata_of self.now) }
+        ensures err { OnErr result (T.least_refused ≤ length (T.bytes out.old) + length (rdata_of self.now)) }
+        ensures fits { OnOk result (IsContent self.now) }
     {
         match self {
-            Content::A(address) => out.push_slice(address),
+            Content::A(address) => write_address(address, out),
             Content::Ns(name) | Content::Cname(name) | Content::Ptr(name) => {
-                out.push_slice(name.wire())
+                out.append(name.wire())
             }
             Content::Soa(soa) => soa.write(out),
             Content::Mx(preference, exchange) => {
-                out.push_slice(&preference.to_be_bytes())?;
-                out.push_slice(exchange.wire())
+                append_u16(out, *preference)?;
+                out.append(exchange.wire())
             }
             Content::Txt(texts) => write_texts(texts.as_slice(), out),
-            Content::Aaaa(address) => out.push_slice(address),
+            Content::Aaaa(address) => write_address(address, out),
             Content::Srv(priority, weight, port, target) => {
-                out.push_slice(&priority.to_be_bytes())?;
-                out.push_slice(&weight.to_be_bytes())?;
-                out.push_slice(&port.to_be_bytes())?;
-                out.push_slice(target.wire())
+                append_u16(out, *priority)?;
+                append_u16(out, *weight)?;
+                append_u16(out, *port)?;
+                out.append(target.wire())
             }
-            Content::Naptr(rule) => rule.write(out),
-            Content::Opt(bytes) | Content::Raw(bytes) => out.push_slice(bytes.as_slice()),
+            Content::Naptr(rule) => write_rule(rule, out),
+            Content::Opt(bytes) | Content::Raw(bytes) => out.append(bytes.as_slice()),
         }
     }
 
@@ -140,31 +145,72 @@ impl Content {
 
 impl Soa {
     ghost use Rattle.dns_wire.specs.Rdata.{soa_rdata};
+    ghost use Rattle.dns_wire.specs.Ranges.{IsSoa};
 
     // Appends the RDATA.
-    fn write(&self, out: &mut Bytes) -> Result<(), MemoryFault>
-        ensures { OnOk result (out.new ≡ out.old ++ soa_rdata self.now) }
+    fn write<T: Target>(&self, out: &mut T) -> Result<(), T::Fault>
+        ensures ok { OnOk result (T.bytes out.new ≡ T.bytes out.old ++ soa_rdata self.now) }
+        ensures err { OnErr result (T.least_refused ≤ length (T.bytes out.old) + length (soa_rdata self.now)) }
+        ensures fits { OnOk result (IsSoa self.now) }
     {
-        out.push_slice(self.mname.wire())?;
-        out.push_slice(self.rname.wire())?;
-        out.push_slice(&self.serial.to_be_bytes())?;
-        out.push_slice(&self.refresh.to_be_bytes())?;
-        out.push_slice(&self.retry.to_be_bytes())?;
-        out.push_slice(&self.expire.to_be_bytes())?;
-        out.push_slice(&self.minimum.to_be_bytes())
+        out.append(self.mname.wire())?;
+        out.append(self.rname.wire())?;
+        append_u32(out, self.serial)?;
+        append_u32(out, self.refresh)?;
+        append_u32(out, self.retry)?;
+        append_u32(out, self.expire)?;
+        append_u32(out, self.minimum)
     }
 }
 
+// Appends the address.
+fn write_address<T: Target, const SIZE: usize>(
+    address: &[u8; SIZE],
+    out: &mut T,
+) -> Result<(), T::Fault>
+    ensures ok { OnOk result (T.bytes out.new ≡ T.bytes out.old ++ address.now) }
+    ensures err { OnErr result (T.least_refused ≤ length (T.bytes out.old) + length address.now) }
+    ensures size { length address.now ≡ SIZE }
+    ensures fits { AreBytes address.now }
+{
+    out.append(address)
+}
+
+// Appends the RDATA of a rule.
+fn write_rule<T: Target>(rule: &Naptr, out: &mut T) -> Result<(), T::Fault>
+    ensures ok { OnOk result (T.bytes out.new ≡ T.bytes out.old ++ rdata rule.now) }
+    ensures err { OnErr result (T.least_refused ≤ length (T.bytes out.old) + length (rdata rule.now)) }
+    ensures fits { OnOk result (IsRule rule.now) }
+{
+    append_u16(out, rule.order)?;
+    append_u16(out, rule.preference)?;
+    write_text(&rule.flags, out)?;
+    write_text(&rule.services, out)?;
+    write_text(&rule.regexp, out)?;
+    out.append(rule.replacement.wire())
+}
+
 // Appends the texts as character-strings.
-fn write_texts(texts: &[Text255], out: &mut Bytes) -> Result<(), MemoryFault>
-    ensures { OnOk result (out.new ≡ out.old ++ flat_map string_wire texts.now) }
+fn write_texts<T: Target>(texts: &[Text255], out: &mut T) -> Result<(), T::Fault>
+    ensures ok { OnOk result (T.bytes out.new ≡ T.bytes out.old ++ flat_map string_wire texts.now) }
+    ensures err { OnErr result (T.least_refused ≤ length (T.bytes out.old) + length (flat_map string_wire texts.now)) }
+    ensures fits { OnOk result (AllByRecursion IsText texts.now) }
 {
     for text in texts {
-        let bytes = text.as_bytes();
-        out.push_slice(&[bytes.len() as u8])?;
-        out.push_slice(bytes)?;
+        write_text(text, out)?;
     }
     Ok(())
+}
+
+// Appends the text as a character-string.
+fn write_text<T: Target>(text: &Text255, out: &mut T) -> Result<(), T::Fault>
+    ensures ok { OnOk result (T.bytes out.new ≡ T.bytes out.old ++ string_wire text.now) }
+    ensures err { OnErr result (T.least_refused ≤ length (T.bytes out.old) + length (string_wire text.now)) }
+    ensures fits { OnOk result (IsText text.now) }
+{
+    let bytes = text.as_bytes();
+    out.append(&[bytes.len() as u8])?;
+    out.append(bytes)
 }
 
 fn copy_texts(alloc: Global, texts: &[Text255]) -> Result<Texts, MemoryFault>
@@ -177,7 +223,7 @@ fn copy_texts(alloc: Global, texts: &[Text255]) -> Result<Texts, MemoryFault>
     Ok(copies)
 }
 
-fn copy_bytes(alloc: Global, bytes: &[u8]) -> Result<Bytes, MemoryFault>
+pub(crate) fn copy_bytes(alloc: Global, bytes: &[u8]) -> Result<Bytes, MemoryFault>
     ensures { IfOk result (λ copy. copy ≡ bytes.now) }
 {
     let mut copy = Bytes::new(alloc);

@@ -4,13 +4,13 @@ use Rattle.zone_text.specs.Addresses.{cut, colon, group_of, last_group, groups_o
 use Rattle.zone_text.proofs.TextLemmas.{bytes_before, before-before}
 
 -- the last group
-groups-last : (more : ℕ) (quad : Bool) (text : List ℕ) → 0 < more → cut colon text ≡ None → groups_of more quad text ≡ last_group quad text
+pub groups-last : (more : ℕ) (quad : Bool) (text : List ℕ) → 0 < more → cut colon text ≡ None → groups_of more quad text ≡ last_group quad text
 unfolding groups_of
 groups-last zero quad text some is = absurd (omega arith)
 groups-last (suc more) quad text some is = rw is refl
 
 -- a group before others
-groups-step : (more : ℕ) (quad : Bool) (text part behind : List ℕ) → 0 < more → cut colon text ≡ Some (part, behind) → groups_of more quad text ≡ (group_of part >>= λ group. bytes_before group (groups_of (more - 1) quad behind))
+pub groups-step : (more : ℕ) (quad : Bool) (text part behind : List ℕ) → 0 < more → cut colon text ≡ Some (part, behind) → groups_of more quad text ≡ (group_of part >>= λ group. bytes_before group (groups_of (more - 1) quad behind))
 unfolding groups_of
 groups-step zero quad text part behind some is = absurd (omega arith)
 groups-step (suc more) quad text part behind some is =

@@ -1,6 +1,12 @@
 pub mod AddressLemmas
+pub mod AddressTextLemmas
+pub mod BareLemmas
+pub mod ContentLemmas
 pub mod CutLemmas
 pub mod EntryLemmas
+pub mod FieldTokenLemmas
+pub mod NumberLemmas
+pub mod QuotedLemmas
 pub mod ReaderLemmas
 pub mod RecordLemmas
 pub mod RunLemmas
@@ -10,3 +16,4 @@ pub mod TextLemmas
 pub mod TimeLemmas
 pub mod TokenLemmas
 pub mod WholeLemmas
+pub mod WrittenLemmas

@@ -12,7 +12,7 @@ use Rattle.zone_text.specs.declared.fault.TextWhy.TheVariants.{BadData}
 abbrev pub strings_before : List (List ℕ) → Result (List (List ℕ)) TextWhy → Result (List (List ℕ)) TextWhy
 strings_before front rest = rest >>= λ strings. Ok (front ++ strings)
 
-strings-step : (token : Token) (tokens : List Token) (string : List ℕ) → ok_or (string_of token.text) BadData ≡ Ok string → strings_of (token ∷ tokens) ≡ strings_before (string ∷ []) (strings_of tokens)
+pub strings-step : (token : Token) (tokens : List Token) (string : List ℕ) → ok_or (string_of token.text) BadData ≡ Ok string → strings_of (token ∷ tokens) ≡ strings_before (string ∷ []) (strings_of tokens)
 unfolding strings_of
 strings-step token tokens string is = rw is refl
 

@@ -25,7 +25,7 @@ pub before-before : (some more : List ℕ) (rest : Option (List ℕ)) → bytes_
 before-before some more None = refl
 before-before some more (Some bytes) = ap Some (sym (append_assoc some more bytes))
 
-undone-step : (text : List ℕ) (byte more : ℕ) → 0 < length text → first_byte text ≡ Some (byte, more) → undone_from 0 text ≡ bytes_before (byte ∷ []) (undone_from 0 (drop (more + 1) text))
+pub undone-step : (text : List ℕ) (byte more : ℕ) → 0 < length text → first_byte text ≡ Some (byte, more) → undone_from 0 text ≡ bytes_before (byte ∷ []) (undone_from 0 (drop (more + 1) text))
 unfolding undone_from
 undone-step [] byte more some is = absurd (omega arith)
 undone-step (b ∷ rest) byte more some is =

@@ -5,6 +5,8 @@ pub mod Entries
 pub mod FaultWords
 pub mod Fed
 pub mod Fields
+pub mod FieldsText
+pub mod Laws
 pub mod Meaning
 pub mod Read
 pub mod Reading

@@ -2,6 +2,7 @@
 ghost use Rattle.std.specs.Prelude.{◌≡◌, ◌<◌, ◌⊎◌, ◌++◌, ℕ, List, length};
 ghost use Rattle.naptr_data.specs.Zones.{Labels};
 ghost use Rattle.dns_wire.specs.declared.record.Record.{Record};
+ghost use Rattle.zone_text.specs.Laws.{FieldsAreReadAgain};
 ghost use Rattle.zone_text.specs.Zone.{most_bytes, ZoneSays, ZoneBreaks, BreaksSoFar};
 ghost use Rattle.zone_text.specs.declared.fault.TextWhy.{TextWhy};
 
@@ -39,4 +40,10 @@ pub fn broken_stays_broken()
 pub fn too_long_breaks()
     ensures { (text : List ℕ) (origin : Labels) → most_bytes < length text
         → (line : ℕ) × (why : TextWhy) × BreaksSoFar text origin line why }
+{}
+
+/// The fields that are written of content are read again as this content, under every origin, as long as its bytes, numbers, names
+/// and texts are in their ranges and its times are at most 2,147,483,647.
+pub fn fields_are_read_again()
+    ensures { FieldsAreReadAgain }
 {}

@@ -1,4 +1,5 @@
-//! Reads zone texts, one a line, and prints what each says or where it breaks. `text TEXT` is fed whole and then byte by byte;
+//! Reads zone texts, one a line, and prints what each says or where it breaks. `text TEXT` is fed whole and then byte by byte,
+//! and the lines of its records are read again; where another answer comes there, it is printed too.
 //! `many COUNT TEXT then TEXT` is the first text so many times and then the second, fed in larger pieces, of which the
 //! number of records is printed; `origin NAME` sets the origin. In a text `\n`, `\r`, `\t`, `\\` and `\xNN` are bytes. A line
 //! that begins with `#` is a heading. The file stdout is worked out from RFC 1035 and this project's profile of it.
@@ -44,22 +45,41 @@ fn print(rt: &HostRuntime, told: Result<Bytes, MemoryFault>) -> io::Result<()> {
     }
 }
 
-// What is told of a text that is fed whole, and where another answer comes byte by byte, that too.
+// What is told of a text that is fed whole, and where another answer comes byte by byte or from the lines of its records, that
+// too.
 fn answer(alloc: Global, origin: Name, text: &str) -> Result<Bytes, MemoryFault> {
     let mut bytes = Bytes::new(alloc);
     escapes::push_undone(&mut bytes, text)?;
+    let said = read(alloc, origin, bytes.as_slice(), bytes.as_slice().len());
     let mut whole = Bytes::new(alloc);
-    printing::push_answer(
-        &mut whole,
-        &read(alloc, origin, bytes.as_slice(), bytes.as_slice().len()),
-    )?;
+    printing::push_answer(&mut whole, &said)?;
     let mut parts = Bytes::new(alloc);
     printing::push_answer(&mut parts, &read(alloc, origin, bytes.as_slice(), 1))?;
-    if whole.as_slice() != parts.as_slice() {
-        whole.push_slice(b"  byte by byte:\n")?;
-        whole.push_slice(parts.as_slice())?;
+    push_other(&mut whole, b"  byte by byte:\n", &parts)?;
+    if let Ok(records) = &said {
+        let again = answer_again(alloc, records)?;
+        push_other(&mut whole, b"  read again:\n", &again)?;
     }
     Ok(whole)
+}
+
+// Appends another answer behind its heading.
+fn push_other(told: &mut Bytes, heading: &[u8], other: &Bytes) -> Result<(), MemoryFault> {
+    if told.as_slice() != other.as_slice() {
+        told.push_slice(heading)?;
+        told.push_slice(other.as_slice())?;
+    }
+    Ok(())
+}
+
+// What is told of the text that the lines of records are.
+fn answer_again(alloc: Global, records: &Records) -> Result<Bytes, MemoryFault> {
+    let mut lines = Bytes::new(alloc);
+    printing::push_records(&mut lines, b"", records)?;
+    let mut told = Bytes::new(alloc);
+    let said = read(alloc, Name::root(), lines.as_slice(), PIECE);
+    printing::push_answer(&mut told, &said)?;
+    Ok(told)
 }
 
 // What is told of a text of many repeats.

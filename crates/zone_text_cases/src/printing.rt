@@ -1,19 +1,15 @@
-//! Records in one line each: the owner folded, TTL, IN, type, and the fields.
+//! Records in one line each: the owner folded, TTL, IN, type, and the fields as they are written back.
 
-use dns_name::Name;
-use dns_wire::{Content, Record, Records, Soa};
-use enum_base::{Bytes, MemoryFault, Text255};
+use dns_wire::{Content, Record, Records};
+use enum_base::{Bytes, MemoryFault};
 use itoa::Buffer;
-use naptr_data::Naptr;
-use zone_text::TextFault;
+use zone_text::{TextFault, write_fields};
 
 /// Appends the lines of the records, or the fault.
 pub fn push_answer(out: &mut Bytes, read: &Result<Records, TextFault>) -> Result<(), MemoryFault> {
     match read {
         Ok(records) => {
-            for record in records.as_slice() {
-                push_record(out, record)?;
-            }
+            push_records(out, b"  ", records)?;
             out.push_slice(b"  end\n")
         }
         Err(fault) => push_fault(out, fault),
@@ -43,146 +39,46 @@ fn push_decimal(out: &mut Bytes, number: u64) -> Result<(), MemoryFault> {
     out.push_slice(digits.format(number).as_bytes())
 }
 
+/// Appends a line of each record behind a margin.
+pub fn push_records(out: &mut Bytes, margin: &[u8], records: &Records) -> Result<(), MemoryFault> {
+    for record in records.as_slice() {
+        out.push_slice(margin)?;
+        push_record(out, record)?;
+    }
+    Ok(())
+}
+
 fn push_record(out: &mut Bytes, record: &Record) -> Result<(), MemoryFault> {
-    out.push_slice(b"  ")?;
     record.owner.fold().to_text(out)?;
     out.push_slice(b" ")?;
     push_decimal(out, u64::from(record.ttl))?;
-    out.push_slice(if record.class == 1 { b" IN" } else { b" ??" })?;
-    push_content(out, &record.content)?;
+    out.push_slice(if record.class == 1 { b" IN " } else { b" ?? " })?;
+    out.push_slice(word_of(&record.content))?;
+    out.push_slice(b" ")?;
+    push_fields(out, record)?;
     out.push_slice(b"\n")
 }
 
-fn push_content(out: &mut Bytes, content: &Content) -> Result<(), MemoryFault> {
+// The name of the type.
+fn word_of(content: &Content) -> &'static [u8] {
     match content {
-        Content::A(address) => push_quad(out, address),
-        Content::Ns(server) => push_named(out, b" NS", server),
-        Content::Cname(target) => push_named(out, b" CNAME", target),
-        Content::Soa(soa) => push_soa(out, soa),
-        Content::Ptr(name) => push_named(out, b" PTR", name),
-        Content::Mx(preference, exchange) => {
-            out.push_slice(b" MX")?;
-            push_field(out, u32::from(*preference))?;
-            push_name(out, exchange)
-        }
-        Content::Txt(texts) => {
-            out.push_slice(b" TXT")?;
-            for text in texts.as_slice() {
-                push_string(out, text)?;
-            }
-            Ok(())
-        }
-        Content::Aaaa(address) => push_groups(out, address),
-        Content::Srv(priority, weight, port, target) => {
-            out.push_slice(b" SRV")?;
-            push_field(out, u32::from(*priority))?;
-            push_field(out, u32::from(*weight))?;
-            push_field(out, u32::from(*port))?;
-            push_name(out, target)
-        }
-        Content::Naptr(rule) => push_rule(out, rule),
-        Content::Opt(_) | Content::Raw(_) => out.push_slice(b" ??"),
+        Content::A(_) => b"A",
+        Content::Ns(_) => b"NS",
+        Content::Cname(_) => b"CNAME",
+        Content::Soa(_) => b"SOA",
+        Content::Ptr(_) => b"PTR",
+        Content::Mx(_, _) => b"MX",
+        Content::Txt(_) => b"TXT",
+        Content::Aaaa(_) => b"AAAA",
+        Content::Srv(_, _, _, _) => b"SRV",
+        Content::Naptr(_) => b"NAPTR",
+        Content::Opt(_) | Content::Raw(_) => b"??",
     }
 }
 
-fn push_field(out: &mut Bytes, number: u32) -> Result<(), MemoryFault> {
-    out.push_slice(b" ")?;
-    push_decimal(out, u64::from(number))
-}
-
-fn push_name(out: &mut Bytes, name: &Name) -> Result<(), MemoryFault> {
-    out.push_slice(b" ")?;
-    name.to_text(out)
-}
-
-fn push_named(out: &mut Bytes, kind: &[u8], name: &Name) -> Result<(), MemoryFault> {
-    out.push_slice(kind)?;
-    push_name(out, name)
-}
-
-fn push_soa(out: &mut Bytes, soa: &Soa) -> Result<(), MemoryFault> {
-    out.push_slice(b" SOA")?;
-    push_name(out, &soa.mname)?;
-    push_name(out, &soa.rname)?;
-    for number in [soa.serial, soa.refresh, soa.retry, soa.expire, soa.minimum] {
-        push_field(out, number)?;
+fn push_fields(out: &mut Bytes, record: &Record) -> Result<(), MemoryFault> {
+    match &record.content {
+        Content::Opt(_) | Content::Raw(_) => out.push_slice(b"??"),
+        content => write_fields(content, out),
     }
-    Ok(())
-}
-
-fn push_rule(out: &mut Bytes, rule: &Naptr) -> Result<(), MemoryFault> {
-    out.push_slice(b" NAPTR")?;
-    push_field(out, u32::from(rule.order))?;
-    push_field(out, u32::from(rule.preference))?;
-    push_string(out, &rule.flags)?;
-    push_string(out, &rule.services)?;
-    push_string(out, &rule.regexp)?;
-    push_name(out, &rule.replacement)
-}
-
-// A character-string between quotation marks.
-fn push_string(out: &mut Bytes, text: &Text255) -> Result<(), MemoryFault> {
-    out.push_slice(b" \"")?;
-    for byte in text.as_bytes() {
-        match *byte {
-            b'"' | b'\\' => out.push_slice(&[b'\\', *byte])?,
-            b' '..=b'~' => out.push_slice(&[*byte])?,
-            byte => out.push_slice(&[
-                b'\\',
-                b'0' + byte / 100,
-                b'0' + byte / 10 % 10,
-                b'0' + byte % 10,
-            ])?,
-        }
-    }
-    out.push_slice(b"\"")
-}
-
-fn push_quad(out: &mut Bytes, address: &[u8; 4]) -> Result<(), MemoryFault> {
-    out.push_slice(b" A ")?;
-    let [first, second, third, fourth] = *address;
-    push_decimal(out, u64::from(first))?;
-    for byte in [second, third, fourth] {
-        out.push_slice(b".")?;
-        push_decimal(out, u64::from(byte))?;
-    }
-    Ok(())
-}
-
-// Eight groups of hexadecimal digits without leading zeros.
-fn push_groups(out: &mut Bytes, address: &[u8; 16]) -> Result<(), MemoryFault> {
-    out.push_slice(b" AAAA ")?;
-    for group in 0..8 {
-        if group > 0 {
-            out.push_slice(b":")?;
-        }
-        push_group(
-            out,
-            256 * u16::from(address[2 * group]) + u16::from(address[2 * group + 1]),
-        )?;
-    }
-    Ok(())
-}
-
-fn push_group(out: &mut Bytes, group: u16) -> Result<(), MemoryFault> {
-    if group >= 4096 {
-        push_digit(out, group / 4096)?;
-    }
-    if group >= 256 {
-        push_digit(out, group / 256)?;
-    }
-    if group >= 16 {
-        push_digit(out, group / 16)?;
-    }
-    push_digit(out, group)
-}
-
-fn push_digit(out: &mut Bytes, number: u16) -> Result<(), MemoryFault> {
-    let digit = (number % 16) as u8;
-    let letter = if digit < 10 {
-        b'0' + digit
-    } else {
-        b'a' + digit - 10
-    };
-    out.push_slice(&[letter])
 }

@@ -1,7 +1,8 @@
 use Rattle.std.proofs.Common.{◌≡◌, ◌++◌, take}
-use Rattle.std.specs.List.{flat_map}
+use Rattle.std.specs.List.{AllByRecursion, flat_map}
+use Rattle.dns_wire.specs.Ranges.{IsText}
 use Rattle.naptr_data.specs.Rdata.{string_wire}
 use Rattle.dns_wire.proofs.content.write_texts.Given as goal
 
 abbrev pub invariant-loop-text : goal.invariant-loop-text
-invariant-loop-text l = l.out ≡ l.initial.out ++ flat_map string_wire (take l.text-index l.texts)
+invariant-loop-text g l = (g.T.Target.bytes l.out ≡ g.T.Target.bytes l.initial.out ++ flat_map string_wire (take l.text-index l.texts)) × AllByRecursion IsText (take l.text-index l.texts)

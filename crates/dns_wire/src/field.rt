@@ -1,0 +1,38 @@
+//! Numbers in messages, outside RDATA.
+ghost use Rattle.std.specs.Prelude.{◌<◌, ◌≤◌, length, IfOk};
+ghost use Rattle.dns_wire.specs.Message.{NumberAt, LongAt};
+
+use crate::decode_fault::DecodeFault;
+use byteorder::{BigEndian, ByteOrder};
+
+/// The number of 16 bits at that place, the high byte first, and the place behind it.
+///
+/// # Errors
+/// `Short` where its two bytes do not lie in the message.
+pub fn number_at(message: &[u8], at: usize) -> Result<(u16, usize), DecodeFault>
+    requires { at ≤ length message.now }
+    ensures number { NumberAt message.now at result }
+    ensures within { IfOk result (λ read. (at < read.1) × (read.1 ≤ length message.now)) }
+{
+    if message.len() - at < 2 {
+        return Err(DecodeFault::Short { at });
+    }
+    let number = BigEndian::read_u16(&message[at..]);
+    Ok((number, at + 2))
+}
+
+/// The number of 32 bits at that place, the high byte first, and the place behind it.
+///
+/// # Errors
+/// `Short` where its four bytes do not lie in the message.
+pub fn long_at(message: &[u8], at: usize) -> Result<(u32, usize), DecodeFault>
+    requires { at ≤ length message.now }
+    ensures number { LongAt message.now at result }
+    ensures within { IfOk result (λ read. (at < read.1) × (read.1 ≤ length message.now)) }
+{
+    if message.len() - at < 4 {
+        return Err(DecodeFault::Short { at });
+    }
+    let number = BigEndian::read_u32(&message[at..]);
+    Ok((number, at + 4))
+}

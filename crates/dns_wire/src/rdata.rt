@@ -1,0 +1,104 @@
+//! The content of RDATA in a message.
+ghost use Rattle.std.specs.Prelude.{◌<◌, ◌≤◌, length, IfOk};
+ghost use Rattle.naptr_data.specs.Fields.{NameIn, EndsIn};
+ghost use Rattle.dns_wire.specs.Contents.{AddressIn, SoaIn, LastIn, ContentIn};
+ghost use Rattle.dns_wire.specs.declared.form.Form.TheVariants as form;
+
+use crate::content::{Content, Soa};
+use crate::rdata_field::{address_in, long_in};
+use dns_name::Name;
+use naptr_data::{InFault, name_in, number_in};
+
+/// The value whose last field ends at that place.
+///
+/// # Errors
+/// `Shape` at that place where the RDATA does not end there.
+pub fn ending<T: Drop>(value: T, at: usize, to: usize) -> Result<T, InFault>
+    requires { at ≤ to }
+    ensures { EndsIn to value at result }
+{
+    if at < to {
+        return Err(InFault::Shape { at });
+    }
+    Ok(value)
+}
+
+/// The address of that many bytes that the RDATA is (RFC 1035, 3.4.1; RFC 3596, 2.2).
+pub fn address<const N: usize>(message: &[u8], from: usize, to: usize) -> Result<[u8; N], InFault>
+    requires begin { from ≤ to }
+    requires end { to ≤ length message.now }
+    ensures { LastIn (AddressIn N message.now to) to from result }
+{
+    let (bytes, end) = address_in(message, from, to)?;
+    ending(bytes, end, to)
+}
+
+/// The name that the RDATA ends with.
+pub fn last_name(message: &[u8], from: usize, to: usize) -> Result<Name, InFault>
+    requires begin { from ≤ to }
+    requires end { to ≤ length message.now }
+    ensures { LastIn (NameIn message.now to) to from result }
+{
+    let (name, end) = name_in(message, from, to)?;
+    ending(name, end, to)
+}
+
+/// The data of an SOA record that the RDATA is (RFC 1035, 3.3.13).
+pub fn start(message: &[u8], from: usize, to: usize) -> Result<Soa, InFault>
+    requires begin { from ≤ to }
+    requires end { to ≤ length message.now }
+    ensures { LastIn (SoaIn message.now to) to from result }
+{
+    let (soa, end) = soa_in(message, from, to)?;
+    ending(soa, end, to)
+}
+
+// The fields of an SOA record.
+fn soa_in(message: &[u8], from: usize, to: usize) -> Result<(Soa, usize), InFault>
+    requires begin { from ≤ to }
+    requires end { to ≤ length message.now }
+    ensures soa { SoaIn message.now to from result }
+    ensures within { IfOk result (λ read. (from < read.1) × (read.1 ≤ to)) }
+{
+    let (mname, at_rname) = name_in(message, from, to)?;
+    let (rname, at_serial) = name_in(message, at_rname, to)?;
+    let (serial, at_refresh) = long_in(message, at_serial, to)?;
+    let (refresh, at_retry) = long_in(message, at_refresh, to)?;
+    let (retry, at_expire) = long_in(message, at_retry, to)?;
+    let (expire, at_minimum) = long_in(message, at_expire, to)?;
+    let (minimum, end) = long_in(message, at_minimum, to)?;
+    let soa = Soa {
+        mname,
+        rname,
+        serial,
+        refresh,
+        retry,
+        expire,
+        minimum,
+    };
+    Ok((soa, end))
+}
+
+/// A preference and a mail exchange (RFC 1035, 3.3.9).
+pub fn exchange(message: &[u8], from: usize, to: usize) -> Result<Content, InFault>
+    requires begin { from ≤ to }
+    requires end { to ≤ length message.now }
+    ensures { ContentIn form.Mx message.now from to result }
+{
+    let (preference, at_exchange) = number_in(message, from, to)?;
+    let exchange = last_name(message, at_exchange, to)?;
+    Ok(Content::Mx(preference, exchange))
+}
+
+/// A priority, a weight, a port and a target (RFC 2782).
+pub fn service(message: &[u8], from: usize, to: usize) -> Result<Content, InFault>
+    requires begin { from ≤ to }
+    requires end { to ≤ length message.now }
+    ensures { ContentIn form.Srv message.now from to result }
+{
+    let (priority, at_weight) = number_in(message, from, to)?;
+    let (weight, at_port) = number_in(message, at_weight, to)?;
+    let (port, at_target) = number_in(message, at_port, to)?;
+    let target = last_name(message, at_target, to)?;
+    Ok(Content::Srv(priority, weight, port, target))
+}

@@ -1,0 +1,74 @@
+//! Fields of RDATA in a message, beside those that rules have. Each is read at a place, and lies before `to`, where the RDATA ends.
+ghost use Rattle.std.specs.Prelude.{◌<◌, ◌≤◌, length, IfOk};
+ghost use Rattle.dns_wire.specs.Contents.{LongIn, AddressIn, TextsIn};
+ghost use Rattle.dns_wire.specs.Outcome.{Told, OrMemory};
+ghost use Rattle.dns_wire.specs.DecodeFaults.{of_rdata};
+
+use crate::content::Texts;
+use crate::decode_fault::DecodeFault;
+use naptr_data::{InFault, text_in};
+use std::alloc::Global;
+
+/// The number of 32 bits at that place, the high byte first, and the place behind it.
+///
+/// # Errors
+/// `Shape` at its place where its four bytes do not lie before `to`.
+pub fn long_in(message: &[u8], at: usize, to: usize) -> Result<(u32, usize), InFault>
+    requires begin { at ≤ to }
+    requires end { to ≤ length message.now }
+    ensures number { LongIn message.now to at result }
+    ensures within { IfOk result (λ read. (at < read.1) × (read.1 ≤ to)) }
+{
+    if to - at < 4 {
+        return Err(InFault::Shape { at });
+    }
+    let bytes = [
+        message[at],
+        message[at + 1],
+        message[at + 2],
+        message[at + 3],
+    ];
+    Ok((u32::from_be_bytes(bytes), at + 4))
+}
+
+/// The address of that many bytes at that place, and the place behind it.
+///
+/// # Errors
+/// `Shape` at its place where they do not lie before `to`.
+pub fn address_in<const N: usize>(
+    message: &[u8],
+    at: usize,
+    to: usize,
+) -> Result<([u8; N], usize), InFault>
+    requires begin { at ≤ to }
+    requires end { to ≤ length message.now }
+    ensures address { AddressIn N message.now to at result }
+    ensures within { IfOk result (λ read. read.1 ≤ to) }
+{
+    if to - at < N {
+        return Err(InFault::Shape { at });
+    }
+    let mut bytes = [0; N];
+    bytes.copy_from_slice(&message[at..at + N]);
+    Ok((bytes, at + N))
+}
+
+/// The character-strings of the RDATA, of which there is one at least (RFC 1035, 3.3.14).
+///
+/// # Errors
+/// `RdataShape` at the character-string that does not lie in the RDATA; where there is none, at the start.
+pub fn texts_in(alloc: Global, message: &[u8], from: usize, to: usize) -> Result<Texts, DecodeFault>
+    requires begin { from ≤ to }
+    requires end { to ≤ length message.now }
+    ensures { OrMemory (Told of_rdata (TextsIn message.now from to)) result }
+{
+    let mut texts = Texts::new(alloc);
+    let (first, mut at) = text_in(message, from, to)?;
+    texts.push(first)?;
+    'texts: while at < to {
+        let (text, next) = text_in(message, at, to)?;
+        texts.push(text)?;
+        at = next;
+    }
+    Ok(texts)
+}

@@ -1,0 +1,104 @@
+//! Cases of messages.
+
+use crate::bytes;
+use dns_wire::{DecodeFault, EncodeFault, Message, Record, decode, encode};
+use enum_base::{Bytes, MemoryFault};
+use message_text::print_message;
+use std::alloc::Global;
+
+/// The answer of a case.
+pub fn answer(alloc: Global, verb: &str, rest: &str) -> Result<String, MemoryFault> {
+    let message = bytes::of_text(alloc, rest)?;
+    match verb {
+        "cuts" => cuts(alloc, message.as_slice()),
+        _ => match decode(alloc, message.as_slice()) {
+            Ok(message) => read(alloc, verb, &message),
+            Err(fault) => told(alloc, fault),
+        },
+    }
+}
+
+fn read(alloc: Global, verb: &str, message: &Message) -> Result<String, MemoryFault> {
+    match verb {
+        "decode" => lines(alloc, message),
+        "encode" => written(alloc, message),
+        _ => copied(alloc, message),
+    }
+}
+
+// The lines of a message, in one line.
+fn lines(alloc: Global, message: &Message) -> Result<String, MemoryFault> {
+    let printed = print_message(alloc, message)?;
+    let text = String::from_utf8_lossy(alloc, printed.as_slice())?;
+    let mut told = String::new(alloc);
+    for (place, line) in text.lines().enumerate() {
+        if place > 0 {
+            told.push_str("; ")?;
+        }
+        told.push_str(line)?;
+    }
+    Ok(told)
+}
+
+// The bytes of a message that is written again.
+fn written(alloc: Global, message: &Message) -> Result<String, MemoryFault> {
+    let mut out = Bytes::new(alloc);
+    match encode(message, &mut out) {
+        Ok(()) => {}
+        Err(EncodeFault::TooLong) => return Ok("TooLong".to_string(alloc)?),
+        Err(EncodeFault::Memory) => return Err(MemoryFault),
+    }
+    let size = out.as_slice().len();
+    if size > 300 {
+        return Ok(format!(in alloc; "{size} bytes")?);
+    }
+    bytes::shown(alloc, out.as_slice())
+}
+
+// The RDATA of a copy of each record.
+fn copied(alloc: Global, message: &Message) -> Result<String, MemoryFault> {
+    let mut told = String::new(alloc);
+    push_copies(alloc, message.answers.as_slice(), &mut told)?;
+    push_copies(alloc, message.authority.as_slice(), &mut told)?;
+    push_copies(alloc, message.additional.as_slice(), &mut told)?;
+    Ok(told.trim_end().to_string(alloc)?)
+}
+
+fn push_copies(alloc: Global, records: &[Record], told: &mut String) -> Result<(), MemoryFault> {
+    for record in records {
+        let copy = record.copy(alloc)?;
+        let rdata = copy.content.rdata(alloc)?;
+        let shown = match rdata.as_slice() {
+            [] => "-".to_string(alloc)?,
+            bytes => hex::encode(alloc, bytes)?,
+        };
+        told.push_str(shown.as_str())?;
+        told.push_str(" ")?;
+    }
+    Ok(())
+}
+
+// From which length on a front of the message has which fault.
+fn cuts(alloc: Global, message: &[u8]) -> Result<String, MemoryFault> {
+    let mut told = String::new(alloc);
+    let mut last = String::new(alloc);
+    for size in 0..message.len() + 1 {
+        let now = match decode(alloc, &message[..size]) {
+            Ok(_) => "read".to_string(alloc)?,
+            Err(fault) => self::told(alloc, fault)?,
+        };
+        if now.as_str() != last.as_str() {
+            let before = if size == 0 { "" } else { ", " };
+            told.push_str(format!(in alloc; "{before}{size} {now}")?.as_str())?;
+            last = now;
+        }
+    }
+    Ok(told)
+}
+
+fn told(alloc: Global, fault: DecodeFault) -> Result<String, MemoryFault> {
+    match fault {
+        DecodeFault::Memory => Err(MemoryFault),
+        _ => Ok(String::from_utf8_lossy(alloc, fault.words().as_slice())?),
+    }
+}
