@@ -1,6 +1,6 @@
 -- What each stage of building says of the given records.
-use Rattle.std.proofs.Common.{◌≡◌, ℕ, ◌+◌, ◌<◌, ◌≤◌, List, [], ◌∷◌, ◌++◌, length, take, drop, get_or, Option, Some, None, sym, ap, subst, ◌∙◌, arith}
-use Rattle.std.specs.Prelude.{Contains, IfSome}
+use Rattle.std.proofs.Common.{◌≡◌, ℕ, ◌+◌, ◌<◌, ◌≤◌, List, [], ◌∷◌, ◌++◌, length, take, drop, get_or, Some, None, sym, ap, subst, ◌∙◌, arith}
+use Rattle.std.specs.Prelude.{Contains}
 use Rattle.naptr_data.specs.Zones.{Labels}
 use Rattle.dns_name.specs.Name.{IsBelow, folded_labels}
 use Rattle.dns_wire.specs.declared.record.Record.{Record}
@@ -11,7 +11,7 @@ use Rattle.zone_db.specs.Building.{Given, AreGivens, IsFirstMixed, IsFirstLarge,
 use Rattle.zone_db.specs.declared.fault.ZoneFault.{ZoneFault}
 use Rattle.zone_db.specs.declared.fault.ZoneFault.TheVariants as fault
 use Rattle.zone_db.proofs.BuildLemmas.{no_start, has_start, one_start, start_repeats, apex_of, inside_of, outside_first, unmixed_of, mixed_first, built_of}
-use Rattle.zone_db.proofs.LargeLemmas.{first_at_start, first_behind, none_at_all, first_within}
+use Rattle.zone_db.proofs.LargeLemmas.{first_at_start, first_behind, none_at_all}
 
 pub start_fault : (given : List Record) (entries : List Given) (f : ZoneFault) → AreGivens given entries → IsStartFault entries f → IsZoneFault given f
 start_fault given entries fault.NoSoa are none = no_start given entries are none
@@ -71,10 +71,6 @@ canonical_others (a ∷ rest) others c is = subst IsRising (sym is) c.2
 pub canonical_some : (kept : List Record) → IsCanonical kept → 1 ≤ length kept
 canonical_some [] c = absurd c
 canonical_some (a ∷ others) c = omega arith
-
-pub large_within : (records : List Record) (found : Option ℕ) → IsFirstLarge records found → IfSome found (λ place. place < length records)
-large_within records None f = tt
-large_within records (Some place) (one, f) = first_within (IsLarge records) records place one f
 
 at_middle : (before : List Record) (one : Record) (behind : List Record) (x : Record) → x ≡ get_or (before ++ one ∷ behind) (length before) x → x ≡ one
 at_middle [] one behind x is = is

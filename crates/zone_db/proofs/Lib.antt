@@ -1,3 +1,4 @@
+pub mod ApartLemmas
 pub mod BuildLemmas
 pub mod ClashLemmas
 pub mod CountLemmas
@@ -5,6 +6,7 @@ pub mod DecideLemmas
 pub mod FaultLemmas
 pub mod FindLemmas
 pub mod FoundLemmas
+pub mod FrontLemmas
 pub mod KeepLemmas
 pub mod LargeLemmas
 pub mod ListLemmas
@@ -16,9 +18,11 @@ pub mod OneFoundLemmas
 pub mod OneZoneLemmas
 pub mod OrderLemmas
 pub mod PlaceLemmas
+pub mod RdataLemmas
 pub mod RunLemmas
 pub mod SeekLemmas
 pub mod SetLemmas
+pub mod SetRunLemmas
 pub mod SizeLemmas
 pub mod SomeZoneLemmas
 pub mod SortLemmas

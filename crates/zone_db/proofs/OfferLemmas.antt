@@ -31,7 +31,7 @@ use Rattle.zone_db.proofs.ListLemmas.{AllByRecursion-contains}
 use Rattle.zone_db.proofs.SeekLemmas.{owned_in, in_owned}
 
 -- the kind of a record of the ten kinds is that of its content
-kind_is : (c : Content) (kind class : ℕ) → IsTrue (belongs kind class c) → IsTrue (is_whole c) → kind ≡ kind_of c
+pub kind_is : (c : Content) (kind class : ℕ) → IsTrue (belongs kind class c) → IsTrue (is_whole c) → kind ≡ kind_of c
 kind_is (content.A address) kind class b w = eqb-true kind a (and_parts (kind == a) (class == internet) b).0
 kind_is (content.Ns server) kind class b w = eqb-true kind ns (and_parts (kind == ns) (class == internet) b).0
 kind_is (content.Cname target) kind class b w = eqb-true kind cname (and_parts (kind == cname) (class == internet) b).0
@@ -106,7 +106,7 @@ kind_of_record : (zone : Zone) (one : Record) → IsValid zone → Contains zone
 kind_of_record zone one valid c = kind_is one.content one.kind one.class one.belongs (valid.plain one c).whole
 
 -- a told zone is told of a zone
-in_told : (zones : List Zone) (z : plain.Zone) → Contains (told zones) z → (zone : Zone) × Contains zones zone × (z ≡ plain_of zone)
+pub in_told : (zones : List Zone) (z : plain.Zone) → Contains (told zones) z → (zone : Zone) × Contains zones zone × (z ≡ plain_of zone)
 in_told [] z c = absurd (Contains-none z c)
 in_told (x ∷ zones) z c = elim (head_or_behind (plain_of x) (told zones) z c) [
   | inl here ↦ (x, Contains-head x zones, here)
@@ -191,7 +191,7 @@ alias_has zone source target valid s =
     let f = stands_record zone.records source (alias target) s in
     (f.0, f.1, (f.2, kind_of_record zone f.0 valid f.1 ∙ ap kind_of (alias_content f.0.content target f.3)))
 
-rule_has : (zone : Zone) (source : Labels) (r : Naptr) → IsValid zone → StandsAt (map owned_of zone.records) source (rule r) → (one : Record) × Contains zone.records one × IsIn source naptr one × (one.content ≡ content.Naptr r)
+pub rule_has : (zone : Zone) (source : Labels) (r : Naptr) → IsValid zone → StandsAt (map owned_of zone.records) source (rule r) → (one : Record) × Contains zone.records one × IsIn source naptr one × (one.content ≡ content.Naptr r)
 rule_has zone source r valid s =
     let f = stands_record zone.records source (rule r) s in
     let is = rule_content f.0.content r f.3 in

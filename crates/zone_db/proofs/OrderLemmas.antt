@@ -6,14 +6,16 @@ use Rattle.std.specs.Ordering.{nat_cmp, ordering_then, ordering_reverse}
 use Rattle.std.specs.Cmp.{IsTotalOrder}
 use Rattle.std.specs.Cmp.Lexicographic.{slice_cmp}
 use Rattle.std.proofs.lemmas.Cmp.{ranked, nat_cmp_total, nat_list_cmp_total, on_total, then_total, tied_itself}
-use Rattle.dns_name.specs.Name.{IsName, wire_of, labels_of, folded_labels}
-use Rattle.dns_name.proofs.NameLemmas.{labels_of-wire_of}
+use Rattle.enum_base.specs.Folding.{folded}
+use Rattle.dns_name.specs.Name.{AreSame, IsName, wire_of, labels_of, folded_labels}
+use Rattle.dns_name.proofs.NameLemmas.{labels_of-wire_of, folded-wire_of, IsName-folded}
 use Rattle.dns_wire.specs.Rdata.{rdata_of}
 use Rattle.dns_wire.specs.declared.record.Record.{Record}
 use Rattle.zone_db.specs.Zone.{owner_order, order_of}
-use Rattle.zone_db.specs.Building.{Given, key_order, entry_order, AreAlike}
+use Rattle.zone_db.specs.Building.{Given, AreKeys, key_order, entry_order, front_of, AreAlike}
 use Rattle.zone_db.specs.declared.key.Key.{Key}
 use Rattle.zone_db.specs.declared.key.Key.TheVariants.{Owner, Set, Whole}
+use Rattle.zone_db.proofs.FrontLemmas.{fronts_apart}
 
 abbrev pub bytes_cmp : List ℕ → List ℕ → Ordering
 bytes_cmp = slice_cmp nat_cmp
@@ -40,11 +42,16 @@ bytes_cmp-equal (x ∷ xs) (y ∷ ys) e =
     let head = nat_cmp-equal x y (equal_then (nat_cmp x y) (bytes_cmp xs ys) e) in
     ap (λ k. k ∷ xs) head ∙ ap (λ l. y ∷ l) rest
 
--- equal wire forms of folded names are those of names that are the same
-pub same_folded_wires : (one other folded folded' : List (List ℕ)) → folded ≡ folded_labels one → folded' ≡ folded_labels other → IsName folded → IsName folded' → bytes_cmp (wire_of folded) (wire_of folded') ≡ Equal → folded_labels one ≡ folded_labels other
-same_folded_wires one other folded folded' f g h k e =
-    let is = bytes_cmp-equal (wire_of folded) (wire_of folded') e in
-    sym f ∙ sym (labels_of-wire_of folded h.each) ∙ ap labels_of is ∙ labels_of-wire_of folded' k.each ∙ g
+-- the order of folded wire forms is that of the wire forms of folded names
+pub wires_cmp : (one other : List (List ℕ)) → IsName one → IsName other → bytes_cmp (folded (wire_of one)) (folded (wire_of other)) ≡ bytes_cmp (wire_of (folded_labels one)) (wire_of (folded_labels other))
+wires_cmp one other n m =
+    ap (λ x. bytes_cmp x (folded (wire_of other))) (folded-wire_of one n.each) ∙ ap (bytes_cmp (wire_of (folded_labels one))) (folded-wire_of other m.each)
+
+-- names that are equal in order are the same
+pub same_names : (one other : List (List ℕ)) → IsName one → IsName other → bytes_cmp (wire_of (folded_labels one)) (wire_of (folded_labels other)) ≡ Equal → AreSame one other
+same_names one other n m e =
+    let is = bytes_cmp-equal (wire_of (folded_labels one)) (wire_of (folded_labels other)) e in
+    sym (labels_of-wire_of (folded_labels one) (IsName-folded one n).each) ∙ ap labels_of is ∙ labels_of-wire_of (folded_labels other) (IsName-folded other m).each
 
 pub owner_order-total : IsTotalOrder owner_order
 owner_order-total = on_total (λ (one : Record). wire_of (folded_labels one.owner)) nat_list_cmp_total
@@ -106,6 +113,11 @@ alike_equal Whole one other a =
     ∙ ap (λ o. ordering_then o (bytes_cmp (rdata_of one.content) (rdata_of other.content))) (ap (nat_cmp one.kind) (sym a.0.1) ∙ tied_itself nat_cmp_total one.kind)
     ∙ ap (bytes_cmp (rdata_of one.content)) (sym a.1) ∙ tied_itself nat_list_cmp_total (rdata_of one.content)
 
+pub alike_itself : (key : Key) (one : Record) → AreAlike key one one
+alike_itself Owner one = refl
+alike_itself Set one = (refl, refl)
+alike_itself Whole one = ((refl, refl), refl)
+
 pub alike_sym : (key : Key) (one other : Record) → AreAlike key one other → AreAlike key other one
 alike_sym Owner one other a = sym a
 alike_sym Set one other a = (sym a.0, sym a.1)
@@ -150,9 +162,21 @@ then_before Greater a b = absurd (b refl)
 pub later_apart : (key : Key) (one other : Record) → key_order key one other ≡ Less → ¬ AreAlike key one other
 later_apart key one other l a = cc (sym l, alike_equal key one other a)
 
--- the whole order, by its parts
-pub whole_alike : (one other : Record) (owners kinds rest inner all : Ordering) → (owners ≡ Equal → AreAlike Owner one other) → kinds ≡ nat_cmp one.kind other.kind → rest ≡ bytes_cmp (rdata_of one.content) (rdata_of other.content) → inner ≡ ordering_then kinds rest → all ≡ ordering_then owners inner → all ≡ Equal → AreAlike Whole one other
-whole_alike one other owners kinds rest inner all same k r i a e =
-    let whole : ordering_then owners inner ≡ Equal = sym a ∙ e in
-    let both : ordering_then kinds rest ≡ Equal = sym i ∙ then_equal owners inner whole in
-    ((same (equal_then owners inner whole), nat_cmp-equal one.kind other.kind (sym k ∙ equal_then kinds rest both)), bytes_cmp-equal (rdata_of one.content) (rdata_of other.content) (sym r ∙ then_equal kinds rest both))
+-- numbers that differ tell the order of the owners
+pub keys_apart : (one other : Record) (kind front kind' front' : ℕ) (rdata rdata' : List ℕ) (o : Ordering) → AreKeys one kind front rdata → AreKeys other kind' front' rdata' → o ≡ nat_cmp front front' → o ≢ Equal → o ≡ owner_order one other
+keys_apart one other kind front kind' front' rdata rdata' o keys keys' is not =
+    fronts_apart 16 (folded (wire_of one.owner)) (folded (wire_of other.owner)) o keys.bytes keys'.bytes (is ∙ ap (λ n. nat_cmp n front') keys.of_owner ∙ ap (nat_cmp (front_of 16 (folded (wire_of one.owner)))) keys'.of_owner) not
+    ∙ wires_cmp one.owner other.owner keys.name keys'.name
+
+-- records that are equal in order are alike
+pub equal_alike : (key : Key) (one other : Record) → IsName one.owner → IsName other.owner → key_order key one other ≡ Equal → AreAlike key one other
+equal_alike Owner one other n m e = same_names one.owner other.owner n m e
+equal_alike Set one other n m e = (
+  same_names one.owner other.owner n m (equal_then (owner_order one other) (nat_cmp one.kind other.kind) e),
+  nat_cmp-equal one.kind other.kind (then_equal (owner_order one other) (nat_cmp one.kind other.kind) e),
+)
+equal_alike Whole one other n m e =
+    let kinds = nat_cmp one.kind other.kind in
+    let rest = bytes_cmp (rdata_of one.content) (rdata_of other.content) in
+    let both = then_equal (owner_order one other) (ordering_then kinds rest) e in
+    ((same_names one.owner other.owner n m (equal_then (owner_order one other) (ordering_then kinds rest) e), nat_cmp-equal one.kind other.kind (equal_then kinds rest both)), bytes_cmp-equal (rdata_of one.content) (rdata_of other.content) (then_equal kinds rest both))

@@ -11,7 +11,7 @@ use Rattle.zone_db.specs.Zone.{AreRepeats, order_of}
 use Rattle.zone_db.specs.Building.{Given, key_order, AreAlike, IsOrdered, IsStable, IsRun}
 use Rattle.zone_db.specs.declared.key.Key.{Key}
 use Rattle.zone_db.proofs.ListLemmas.{take_in, drop_in, turn_of, turned_all, AllByRecursion-contains}
-use Rattle.zone_db.proofs.OrderLemmas.{key_order-total, key_not_after, alike_equal, alike_sym, alike_trans, equal_less, less_not_after, then_before}
+use Rattle.zone_db.proofs.OrderLemmas.{alike_itself, key_order-total, key_not_after, alike_equal, alike_sym, alike_trans, equal_less, less_not_after, then_before}
 
 AllByRecursion-drop : {X : Type 0} (P : X → Type 0) (n : ℕ) (xs : List X) → AllByRecursion P xs → AllByRecursion P (drop n xs)
 AllByRecursion-drop P zero xs all = all
@@ -136,3 +136,7 @@ alike_more key all head next at is within alike here e c =
       | inl old ↦ alike e old
       | inr new ↦ subst (λ (g : Given). AreAlike key head.given g.given) (sym new) here
     ]
+
+-- the head is alike to itself
+pub alike_head : (key : Key) (all : List Given) (head : Given) → head ≡ get_or all 0 head → 0 < length all → (e : Given) → Contains (take 1 all) e → AreAlike key head.given e.given
+alike_head key all head is some = alike_more key all head head 0 is some (λ e c. absurd (Contains-none e c)) (alike_itself key head.given)

@@ -5,7 +5,7 @@ use Rattle.std.specs.List.{AllByRecursion}
 use Rattle.std.specs.declared.cmp.Ordering.TheVariants.{Less, Greater}
 use Rattle.std.proofs.Math.Seq.{take-add}
 use Rattle.std.proofs.lemmas.List.Sums.{sum_by-append}
-use Rattle.std.proofs.lemmas.List.{take-append-drop, drop-drop, map-append, length-map}
+use Rattle.std.proofs.lemmas.List.{take_more, take-append-drop, drop-drop, map-append, length-map}
 use Rattle.std.proofs.lemmas.List.Elements.{Contains-append_left, Contains-append_right, Contains-append_cases}
 use Rattle.naptr_data.proofs.CutLemmas.{Contains-head, Contains-behind, Contains-none, head_or_behind}
 use Rattle.naptr_data.specs.Zones.{Labels}
@@ -15,7 +15,7 @@ use Rattle.zone_db.specs.Zone.{IsIn, IsSet, IsRising, weight, order_of}
 use Rattle.zone_db.specs.Faults.{IsFirst, IsLarge}
 use Rattle.zone_db.specs.Building.{Given, key_order, IsOrdered, IsRun, records_of, givens_from}
 use Rattle.zone_db.specs.declared.key.Key.TheVariants.{Set}
-use Rattle.zone_db.proofs.ListLemmas.{take_in, drop_in, turned_all, next_of, cut_of, AllByRecursion-made, AllByRecursion-contains}
+use Rattle.zone_db.proofs.ListLemmas.{take_in, drop_in, turned_all, cut_of, AllByRecursion-made, AllByRecursion-contains}
 use Rattle.zone_db.proofs.OrderLemmas.{alike_sym, later_apart}
 
 in_none : (owner : Labels) (kind : ℕ) (xs : List Record) (x : Record) → AllByRecursion (λ one. ¬ IsIn owner kind one) xs → Contains xs x → IsIn owner kind x → ⊥
@@ -85,15 +85,15 @@ in_records (x ∷ entries) e c = elim (head_or_behind x entries e c) [
   | inr behind ↦ Contains-behind x.given (records_of entries) e.given (in_records entries e behind)
 ]
 
--- the weight of one more entry
-pub weight_more : (xs : List Given) (i : ℕ) (x : Given) → i < length xs → x ≡ get_or xs i x → weight (records_of (take (i + 1) xs)) ≡ weight (records_of (take i xs)) + (265 + length (rdata_of x.given.content))
+-- the weight of one more record
+pub weight_more : (xs : List Record) (i : ℕ) (x : Record) → i < length xs → x ≡ get_or xs i x → weight (take (i + 1) xs) ≡ weight (take i xs) + (265 + length (rdata_of x.content))
 weight_more xs i x within is =
-    ap weight (next_of (λ (g : Given). g.given) xs i x within is) ∙ sum_by-append (λ (one : Record). 265 + length (rdata_of one.content)) (records_of (take i xs)) (x.given ∷ []) ∙ omega arith
+    ap weight (take_more xs i x within ∙ ap (λ z. take i xs ++ z ∷ []) (sym is)) ∙ sum_by-append (λ (one : Record). 265 + length (rdata_of one.content)) (take i xs) (x ∷ []) ∙ omega arith
 
 -- a front weighs no more than the whole
-pub weight_front : (xs : List Given) (i : ℕ) → weight (records_of (take i xs)) ≤ weight (records_of xs)
+pub weight_front : (xs : List Record) (i : ℕ) → weight (take i xs) ≤ weight xs
 weight_front xs i =
-    let whole : weight (records_of xs) ≡ weight (records_of (take i xs)) + weight (records_of (drop i xs)) = ap (λ l. weight (records_of l)) (sym (take-append-drop i xs)) ∙ ap weight (map-append (λ (g : Given). g.given) (take i xs) (drop i xs)) ∙ sum_by-append (λ (one : Record). 265 + length (rdata_of one.content)) (records_of (take i xs)) (records_of (drop i xs)) in
+    let whole : weight xs ≡ weight (take i xs) + weight (drop i xs) = ap weight (sym (take-append-drop i xs)) ∙ sum_by-append (λ (one : Record). 265 + length (rdata_of one.content)) (take i xs) (drop i xs) in
     omega arith
 
 -- entries before a place come earlier than those from there on, by owner and kind

@@ -1,13 +1,17 @@
 -- The steps from given records to a zone, for private functions alone (this project's own).
-use Rattle.std.specs.Prelude.{◌≡◌, ◌≢◌, ℕ, ◌+◌, ◌<◌, ◌≤◌, nat_lt, Bool, true, false, ◌==◌, ◌&&◌, if◌then◌else◌, List, [], ◌∷◌, ◌++◌, length, take, drop, slice_index_or, map, Contains, Option, Some, None}
+use Rattle.std.specs.Prelude.{◌≡◌, ◌≢◌, ℕ, zero, suc, ◌+◌, ◌*◌, ◌<◌, ◌≤◌, nat_lt, Bool, true, false, ◌==◌, ◌&&◌, if◌then◌else◌, List, [], ◌∷◌, ◌++◌, length, take, drop, slice_index_or, map, Contains, Option, Some, None}
 use Rattle.std.specs.declared.cmp.Ordering.{Ordering}
 use Rattle.std.specs.declared.cmp.Ordering.TheVariants.{Less, Greater}
 use Rattle.std.specs.Ordering.{nat_cmp, ordering_then}
 use Rattle.std.specs.List.{AllByRecursion}
-use Rattle.dns_name.specs.Name.{AreSame, folded_labels}
+use Rattle.dns_name.specs.Name.{AreSame, IsName, folded_labels, wire_of}
+use Rattle.enum_base.specs.Folding.{folded}
+use Rattle.dns_wire.specs.Rdata.{rdata_of}
 use Rattle.dns_wire.specs.Kinds.{cname, soa}
+use Rattle.dns_wire.specs.declared.content.Content.{Content}
+use Rattle.dns_wire.specs.declared.content.Content.TheVariants as content
 use Rattle.dns_wire.specs.declared.record.Record.{Record}
-use Rattle.zone_db.specs.Zone.{AreOneSet, AreRepeats, IsRising, owner_order, order_of}
+use Rattle.zone_db.specs.Zone.{AreOneSet, AreRepeats, IsPlain, IsRising, owner_order, order_of}
 use Rattle.zone_db.specs.Faults.{IsFirst, IsLarge}
 use Rattle.naptr_data.specs.Zones.{Labels}
 use Rattle.zone_db.specs.declared.fault.ZoneFault.{ZoneFault}
@@ -24,6 +28,35 @@ pub record Given : Type 0 where
 abbrev pub givens_from : ℕ → List Record → List Given
 givens_from place [] = []
 givens_from place (one ∷ rest) = record { place = place; given = one } ∷ givens_from (place + 1) rest
+
+-- the number that so many first bytes make, the first of them the greatest; zeros stand behind too few
+unfoldable pub front_of : ℕ → List ℕ → ℕ
+front_of zero bytes = 0
+front_of (suc more) bytes = 256 * front_of more bytes + slice_index_or bytes more 0
+
+-- the RDATA of content other than a rule; rules are compared by their fields
+abbrev pub compared_bytes : Content → List ℕ
+compared_bytes (content.A address) = rdata_of (content.A address)
+compared_bytes (content.Ns server) = rdata_of (content.Ns server)
+compared_bytes (content.Cname target) = rdata_of (content.Cname target)
+compared_bytes (content.Soa start) = rdata_of (content.Soa start)
+compared_bytes (content.Ptr name) = rdata_of (content.Ptr name)
+compared_bytes (content.Mx preference exchange) = rdata_of (content.Mx preference exchange)
+compared_bytes (content.Txt texts) = rdata_of (content.Txt texts)
+compared_bytes (content.Aaaa address) = rdata_of (content.Aaaa address)
+compared_bytes (content.Srv priority weight port target) = rdata_of (content.Srv priority weight port target)
+compared_bytes (content.Naptr rule) = []
+compared_bytes (content.Opt options) = rdata_of (content.Opt options)
+compared_bytes (content.Raw bytes) = rdata_of (content.Raw bytes)
+
+-- what a record is compared by: its kind, the number that its folded owner begins with, and its RDATA unless it is a rule
+pub record AreKeys (given : Record) (kind front : ℕ) (rdata : List ℕ) : Type 0 where
+  pub plain : IsPlain given
+  pub name : IsName given.owner
+  pub of_kind : kind ≡ given.kind
+  pub bytes : (at : ℕ) → at < 16 → slice_index_or (folded (wire_of given.owner)) at 0 < 256
+  pub of_owner : front ≡ front_of 16 (folded (wire_of given.owner))
+  pub of_content : rdata ≡ compared_bytes given.content
 
 -- the order of records by owner, by owner and kind, or whole
 abbrev pub key_order : Key → Record → Record → Ordering

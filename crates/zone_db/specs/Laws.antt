@@ -1,5 +1,7 @@
 -- Laws of zones.
 use Rattle.std.specs.Prelude.{◌≡◌, ◌≢◌, ◌⊎◌, ℕ, List, Contains}
+use Rattle.std.specs.List.{AllByRecursion}
+use Rattle.naptr_data.specs.Laws.{RulesAreApart}
 use Rattle.naptr_data.specs.Zones.{Labels, IsOffer}
 use Rattle.naptr_data.specs.declared.offer.Offer.{Offer}
 use Rattle.dns_wire.specs.Kinds.{naptr}
@@ -70,3 +72,7 @@ FoundIsOffered =
 -- an alias that is found is one CNAME, and a set that is found is not large
 abbrev pub FoundIsReadable : Type 0
 FoundIsReadable = (zones : List Zone) (name : Labels) (kind : ℕ) (found : Found) → AreZones zones → IsFound zones name kind found → IsReadable found
+
+-- rules that stand at one name of a valid zone and rank equal are one rule
+abbrev pub ToldRulesAreApart : Type 0
+ToldRulesAreApart = (zones : List Zone) → AllByRecursion IsValid zones → RulesAreApart (told zones)

@@ -1,39 +1,46 @@
 //! Given records with their places, while a zone is built of them.
-ghost use Rattle.std.specs.Prelude.{◌≡◌, ◌<◌, length, IfOk, OnOk};
+ghost use Rattle.std.specs.Prelude.{◌≡◌, IfOk, OnOk};
 ghost use Rattle.std.specs.Ordering.{nat_cmp};
 ghost use Rattle.std.specs.Cmp.Lexicographic.{slice_cmp};
 ghost use Rattle.dns_name.specs.Name.{wire_of, folded_labels, AreSame};
 
+use crate::bytes::{cmp_rule, compared_bytes};
+use crate::front::front_of;
 use crate::key::Key;
 use dns_name::Name;
-use dns_wire::Record;
+use dns_wire::{Content, Record};
 use enum_base::{Bytes, MemoryFault};
 use std::alloc::Global;
 use std::cmp::Ordering;
 use std::marker::Model;
 
-/// A given record, its place in the list and its RDATA.
+/// A given record, its place in the list, and what it is compared by.
 #[derive(Drop)]
 pub(crate) struct Entry<'a> {
     place: usize,
     given: &'a Record,
+    kind: u16,
+    // The number that the folded owner begins with.
+    front: u128,
+    // The RDATA, unless it is that of a rule.
     rdata: Bytes,
 }
 
 impl<'a> Model for Entry<'a> {
     ghost use Rattle.std.specs.Prelude.{◌≡◌};
-    ghost use Rattle.dns_wire.specs.Rdata.{rdata_of};
-    ghost use Rattle.zone_db.specs.Building.{Given};
+    ghost use Rattle.zone_db.specs.Building.{AreKeys, Given};
 
     ghost Value = { Given };
 
     ghost view = { λ e. record { place = e.place; given = e.given.now } };
 
-    ghost invariant = { λ e. e.rdata ≡ rdata_of e.given.now.content };
+    ghost invariant = { λ e. AreKeys e.given.now e.kind e.front e.rdata };
 }
 
 impl<'a> Entry<'a> {
     ghost use Rattle.zone_db.specs.Building.{key_order, entry_order, AreAlike, IsCopy};
+    ghost use Rattle.zone_db.specs.Zone.{IsPlain, owner_order, order_of};
+    ghost use Rattle.std.specs.Ordering.{ordering_then};
     ghost use Rattle.dns_wire.specs.Rdata.{rdata_of};
     ghost use Rattle.std.specs.declared.cmp.Ordering.TheVariants.{Equal};
 
@@ -43,12 +50,15 @@ impl<'a> Entry<'a> {
         place: usize,
         given: &'a Record,
     ) -> Result<Entry<'a>, MemoryFault>
+        requires { IsPlain given.now }
         ensures { IfOk result (λ e. e ≡ record { place = place; given = given.now }) }
     {
         Ok(Entry {
             place,
             given,
-            rdata: given.content.rdata(alloc)?,
+            kind: given.kind,
+            front: front_of(given.owner.wire()),
+            rdata: compared_bytes(alloc, &given.content)?,
         })
     }
 
@@ -64,11 +74,10 @@ impl<'a> Entry<'a> {
         self.given
     }
 
-    /// The length of the RDATA.
-    pub(crate) fn rdlength(&self) -> usize
-        ensures { result ≡ length (rdata_of self.now.given.content) }
+    pub(crate) fn kind(&self) -> u16
+        ensures { result ≡ self.now.given.kind }
     {
-        self.rdata.as_slice().len()
+        self.kind
     }
 
     /// The order of the records by that key.
@@ -76,14 +85,61 @@ impl<'a> Entry<'a> {
         ensures order { result ≡ key_order key self.now.given other.now.given }
         ensures alike { result ≡ Equal → AreAlike key self.now.given other.now.given }
     {
-        let owners = cmp_owners(&self.given.owner, &other.given.owner);
-        let (kind, other_kind) = (self.given.kind, other.given.kind);
-        let kinds = kind.cmp(&other_kind);
+        let (_self, _other) = (&self.given, &other.given);
         match key {
-            Key::Owner => owners,
-            Key::Set => owners.then(kinds),
-            Key::Whole => owners.then(kinds.then(self.cmp_rdata(other))),
+            Key::Owner => self.cmp_owner(other),
+            Key::Set => self.cmp_set(other),
+            Key::Whole => self.cmp_record(other),
         }
+    }
+
+    // The order of the owners. Most differ in the number that they begin with.
+    fn cmp_owner(&self, other: &Entry<'_>) -> Ordering
+        ensures { result ≡ owner_order self.now.given other.now.given }
+    {
+        let (front, other_front) = (self.front, other.front);
+        match front.cmp(&other_front) {
+            Ordering::Equal => cmp_owners(&self.given.owner, &other.given.owner),
+            apart => apart,
+        }
+    }
+
+    // The order by owner and kind.
+    fn cmp_set(&self, other: &Entry<'_>) -> Ordering
+        ensures { result ≡ ordering_then (owner_order self.now.given other.now.given) (nat_cmp self.now.given.kind other.now.given.kind) }
+    {
+        match self.cmp_owner(other) {
+            Ordering::Equal => self.cmp_kind(other),
+            apart => apart,
+        }
+    }
+
+    // The order by owner, kind and RDATA.
+    fn cmp_record(&self, other: &Entry<'_>) -> Ordering
+        ensures { result ≡ order_of self.now.given other.now.given }
+    {
+        match self.cmp_owner(other) {
+            Ordering::Equal => self.cmp_data(other),
+            apart => apart,
+        }
+    }
+
+    // The order by kind and RDATA.
+    fn cmp_data(&self, other: &Entry<'_>) -> Ordering
+        ensures { result ≡ ordering_then (nat_cmp self.now.given.kind other.now.given.kind)
+            (slice_cmp nat_cmp (rdata_of self.now.given.content) (rdata_of other.now.given.content)) }
+    {
+        match self.cmp_kind(other) {
+            Ordering::Equal => self.cmp_rdata(other),
+            apart => apart,
+        }
+    }
+
+    fn cmp_kind(&self, other: &Entry<'_>) -> Ordering
+        ensures { result ≡ nat_cmp self.now.given.kind other.now.given.kind }
+    {
+        let (kind, other_kind) = (self.kind, other.kind);
+        kind.cmp(&other_kind)
     }
 
     /// The whole order, and of repeats that of their places.
@@ -94,10 +150,16 @@ impl<'a> Entry<'a> {
         self.cmp_by(other, Key::Whole).then(place.cmp(&other_place))
     }
 
+    // The order of the RDATA of records of one kind.
     fn cmp_rdata(&self, other: &Entry<'_>) -> Ordering
+        requires { self.now.given.kind ≡ other.now.given.kind }
         ensures { result ≡ slice_cmp nat_cmp (rdata_of self.now.given.content) (rdata_of other.now.given.content) }
     {
-        self.rdata.as_slice().cmp(other.rdata.as_slice())
+        let (rdata, other_rdata) = (self.rdata.as_slice(), other.rdata.as_slice());
+        match &self.given.content {
+            Content::Naptr(rule) => cmp_rule(rule, &other.given.content),
+            _ => rdata.cmp(other_rdata),
+        }
     }
 
     /// The record as it is kept: its owner folded, with this TTL.
@@ -116,12 +178,27 @@ impl<'a> Entry<'a> {
 }
 
 ghost use Rattle.std.specs.declared.cmp.Ordering.TheVariants.{Equal};
+ghost use Rattle.zone_db.specs.Zone.{AreOneSet};
+ghost use Rattle.zone_db.specs.Building.{key_order};
+ghost use Rattle.zone_db.specs.declared.key.Key.TheVariants.{Set};
+
+/// The order by owner and kind.
+pub(crate) fn cmp_sets(one: &Record, other: &Record) -> Ordering
+    ensures order { result ≡ key_order Set one.now other.now }
+    ensures alike { result ≡ Equal → AreOneSet one.now other.now }
+{
+    let (kind, other_kind) = (one.kind, other.kind);
+    match cmp_owners(&one.owner, &other.owner) {
+        Ordering::Equal => kind.cmp(&other_kind),
+        apart => apart,
+    }
+}
 
 // The order of the folded wire forms.
 pub(crate) fn cmp_owners(one: &Name, other: &Name) -> Ordering
     ensures order { result ≡ slice_cmp nat_cmp (wire_of (folded_labels one.now)) (wire_of (folded_labels other.now)) }
     ensures same { result ≡ Equal → AreSame one.now other.now }
 {
-    let (one, other) = (one.fold(), other.fold());
-    one.wire().cmp(other.wire())
+    let (_wire, _other_wire) = (one.wire(), other.wire());
+    one.cmp_folded(other)
 }

@@ -1,5 +1,5 @@
 //! Laws of zones.
-ghost use Rattle.zone_db.specs.Laws.{RecordsMakeOneZone, RecordsMakeAZoneOrHaveAFault, RecordsHaveOneFault, BuiltRecordsHaveNoFault, ZonesHaveOneAddFault, ZonesFitOrHaveAnAddFault, FittingZonesHaveNoAddFault, ZonesShowOneAnswer, FoundIsOffered, FoundIsReadable};
+ghost use Rattle.zone_db.specs.Laws.{RecordsMakeOneZone, RecordsMakeAZoneOrHaveAFault, RecordsHaveOneFault, BuiltRecordsHaveNoFault, ZonesHaveOneAddFault, ZonesFitOrHaveAnAddFault, FittingZonesHaveNoAddFault, ZonesShowOneAnswer, FoundIsOffered, FoundIsReadable, ToldRulesAreApart};
 
 /// Records make one zone.
 pub fn one_zone()
@@ -37,4 +37,9 @@ pub fn found_is_offered()
 /// An alias that is found is one CNAME, and a set that is found is not large.
 pub fn found_is_readable()
     ensures { FoundIsReadable }
+{}
+
+/// Rules that stand at one name of a valid zone and rank equal are one rule.
+pub fn rules_are_apart()
+    ensures { ToldRulesAreApart }
 {}

@@ -3,6 +3,7 @@
 
 mod answer;
 mod build;
+mod bytes;
 mod clash;
 mod closest;
 mod count;
@@ -12,6 +13,7 @@ mod entry;
 mod fault;
 mod find;
 mod found;
+mod front;
 mod key;
 mod laws;
 mod lookup;
@@ -30,7 +32,7 @@ pub use fault::{AddFault, ZoneFault};
 pub use found::Found;
 pub use laws::{
     found_is_offered, found_is_readable, one_add_fault, one_answer, one_zone, one_zone_fault,
-    zone_or_fault,
+    rules_are_apart, zone_or_fault,
 };
 pub use set::ZoneSet;
 pub use source::ZoneSource;

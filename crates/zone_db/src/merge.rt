@@ -53,7 +53,7 @@ fn push_set(alloc: Global, set: &[Entry<'_>], out: &mut Vec<Record>) -> Result<(
 fn is_start(entry: &Entry<'_>) -> bool
     ensures { result ≡ (entry.now.given.kind == soa) }
 {
-    entry.record().kind == 6
+    entry.kind() == 6
 }
 
 // The least TTL of the entries.

@@ -13,8 +13,8 @@ pub(crate) fn run_len(rest: &[Entry<'_>], key: Key) -> usize
     ensures { IsRun key rest.now result }
 {
     let head = &rest[0];
-    for (at, next) in rest.iter().enumerate() {
-        match head.cmp_by(next, key) {
+    for at in 1..rest.len() {
+        match head.cmp_by(&rest[at], key) {
             Ordering::Equal => {}
             _ => return at,
         }

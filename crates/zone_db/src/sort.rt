@@ -1,5 +1,7 @@
 //! Given records as entries in order.
-ghost use Rattle.std.specs.Prelude.{◌≡◌, IsPermutation, IfOk, OnOk};
+ghost use Rattle.std.specs.Prelude.{◌≡◌, Contains, IsPermutation, IfOk, OnOk};
+ghost use Rattle.dns_wire.specs.declared.record.Record.{Record};
+ghost use Rattle.zone_db.specs.Zone.{IsPlain};
 ghost use Rattle.zone_db.specs.Building.{IsOrdered, IsStable, AreGivens, givens_from};
 
 use crate::entry::Entry;
@@ -12,6 +14,7 @@ pub(crate) fn sorted_entries(
     alloc: Global,
     records: &[Record],
 ) -> Result<Vec<Entry<'_>>, MemoryFault>
+    requires { (one : Record) → Contains records.now one → IsPlain one }
     ensures givens { IfOk result (λ entries. AreGivens records.now entries.items) }
     ensures ordered { IfOk result (λ entries. IsOrdered entries.items) }
     ensures stable { IfOk result (λ entries. IsStable entries.items) }
@@ -21,8 +24,9 @@ pub(crate) fn sorted_entries(
     Ok(entries)
 }
 
-/// The records as entries, as they stand.
-pub(crate) fn entries_of(alloc: Global, records: &[Record]) -> Result<Vec<Entry<'_>>, MemoryFault>
+// The records as entries, as they stand.
+fn entries_of(alloc: Global, records: &[Record]) -> Result<Vec<Entry<'_>>, MemoryFault>
+    requires { (one : Record) → Contains records.now one → IsPlain one }
     ensures { IfOk result (λ entries. entries.items ≡ givens_from 0 records.now) }
 {
     let mut entries = Vec::new(alloc);

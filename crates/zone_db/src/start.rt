@@ -19,7 +19,7 @@ pub(crate) fn first_start<'a, 'b>(entries: &'a [Entry<'b>]) -> Option<&'a Entry<
         (λ start. Contains entries.now start.now × (start.now.given.kind ≡ soa)) }
 {
     for entry in entries {
-        if entry.record().kind == 6 {
+        if entry.kind() == 6 {
             return Some(entry);
         }
     }
@@ -42,7 +42,7 @@ pub(crate) fn is_only_start(entries: &[Entry<'_>], start: &Entry<'_>) -> bool
 fn goes_with(start: &Entry<'_>, entry: &Entry<'_>) -> bool
     ensures { IsTrue result ↔ (entry.now.given.kind ≡ soa → AreRepeats start.now.given entry.now.given) }
 {
-    entry.record().kind != 6 || is_repeat(start, entry)
+    entry.kind() != 6 || is_repeat(start, entry)
 }
 
 fn is_repeat(one: &Entry<'_>, other: &Entry<'_>) -> bool

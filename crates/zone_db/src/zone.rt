@@ -51,7 +51,11 @@ impl Zone {
         let given = records.as_slice();
         let entries = sorted_entries(alloc, given)?;
         match checked_apex(given, entries.as_slice()) {
-            Ok(apex) => Zone::of_kept(alloc, given, apex, kept_records(alloc, entries.as_slice())?),
+            Ok(apex) => {
+                let kept = kept_records(alloc, entries.as_slice())?;
+                drop(entries);
+                Zone::of_kept(alloc, given, apex, kept)
+            }
             Err(fault) => Err(fault),
         }
     }

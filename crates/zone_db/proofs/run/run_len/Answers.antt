@@ -1,5 +1,8 @@
-use Rattle.zone_db.proofs.RunLemmas.{run_ends, run_all, alike_more}
+use Rattle.zone_db.proofs.RunLemmas.{run_ends, run_all, alike_head, alike_more}
 use Rattle.zone_db.proofs.run.run_len.Goals as goal
+
+pub loop-at-init : goal.loop-at-init
+loop-at-init c = alike_head c.args.key c.args.rest.now c.index-rest-0.result c.index-rest-0.is c.requires.some
 
 pub returns-in_default : goal.returns-in_default
 returns-in_default c =

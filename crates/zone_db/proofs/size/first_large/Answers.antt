@@ -1,18 +1,21 @@
-use Rattle.std.proofs.Common.{◌<◌, length, sym, ap, subst, ◌∙◌}
-use Rattle.std.specs.Prelude.{IfSome}
-use Rattle.zone_db.specs.Building.{IsOrdered, IsFirstLarge, records_of}
-use Rattle.zone_db.proofs.SizeLemmas.{rising_ordered, records_again}
-use Rattle.zone_db.proofs.FaultLemmas.{large_within}
+use Rattle.std.proofs.Common.{length}
+use Rattle.zone_db.specs.Building.{givens_from}
+use Rattle.zone_db.proofs.SizeLemmas.{apart_none, apart_more, none_large_yet}
+use Rattle.zone_db.proofs.SetRunLemmas.{set_passed, set_met, none_met}
 use Rattle.zone_db.proofs.size.first_large.Goals as goal
 
-pub first_large_at-requires : goal.first_large_at-requires
-first_large_at-requires c =
-    subst IsOrdered (sym (c.as_slice.ensures.value ∙ c.in_ok-entries.ensures)) (rising_ordered 0 c.args.records.now c.requires)
+pub loop-at-init : goal.loop-at-init
+loop-at-init c = record { apart = apart_none (givens_from 0 c.args.records.now); none = none_large_yet (givens_from 0 c.args.records.now) }
+
+pub returns-then-branch-clause-first : goal.returns-then-branch-clause-first
+returns-then-branch-clause-first c =
+    set_met c.args.records.now c.set_at-set.result.now c.loop-at.at (length c.set_at-set.result.now) c.loop-at.invariant.apart c.set_at-set.ensures.run c.set_at-set.ensures.part (c.in_ok-is_large.ensures.0 c.if-branch.true) c.loop-at.invariant.none c.loop-at-test.true
+
+pub loop-at-preserved : goal.loop-at-preserved
+loop-at-preserved c = record {
+  apart = apart_more (givens_from 0 c.args.records.now) c.loop-at.at (length c.set_at-set.result.now) c.loop-at.invariant.apart c.set_at-set.ensures.run;
+  none = set_passed c.args.records.now c.set_at-set.result.now c.loop-at.at (length c.set_at-set.result.now) c.loop-at.invariant.apart c.set_at-set.ensures.run c.set_at-set.ensures.part (λ l. absurd (cc (c.if-branch.false, c.in_ok-is_large.ensures.1 l))) c.loop-at.invariant.none;
+}
 
 pub returns-clause-first : goal.returns-clause-first
-returns-clause-first c =
-    subst (λ records. IsFirstLarge records c.first_large_at.result) (ap records_of (c.as_slice.ensures.value ∙ c.in_ok-entries.ensures) ∙ records_again 0 c.args.records.now) c.first_large_at.ensures
-
-pub returns-clause-within : goal.returns-clause-within
-returns-clause-within c =
-    subst (λ records. IfSome c.first_large_at.result (λ place. place < length records)) (ap records_of (c.as_slice.ensures.value ∙ c.in_ok-entries.ensures) ∙ records_again 0 c.args.records.now) (large_within _ c.first_large_at.result c.first_large_at.ensures)
+returns-clause-first c = none_met c.args.records.now c.loop-at.at c.loop-at-test.false c.loop-at.invariant.none

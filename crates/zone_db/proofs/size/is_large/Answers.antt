@@ -5,22 +5,25 @@ use Rattle.zone_db.proofs.size.is_large.Goals as goal
 pub returns-then-size-gt60000 : goal.returns-then-size-gt60000
 returns-then-size-gt60000 c = (
   λ t.
-      let more = weight_more c.args.set.now c.loop-entry.entry-index c.entry-item.result c.loop-entry-test.true c.entry-item.is in
-      let front = weight_front c.args.set.now (c.loop-entry.entry-index + 1) in
-      omega (arith, more, front),
+      let more = weight_more c.args.set.now c.loop-one.one-index c.one-item.result c.loop-one-test.true c.one-item.is in
+      let front = weight_front c.args.set.now (c.loop-one.one-index + 1) in
+      let size = c.in_ok-size.ensures in
+      omega (arith, more, front, size),
   λ l. refl,
 )
 
 pub returns-then-sum-gt60000 : goal.returns-then-sum-gt60000
 returns-then-sum-gt60000 c = (
   λ t.
-      let more = weight_more c.args.set.now c.loop-entry.entry-index c.entry-item.result c.loop-entry-test.true c.entry-item.is in
-      let front = weight_front c.args.set.now (c.loop-entry.entry-index + 1) in
-      omega (arith, more, front),
+      let more = weight_more c.args.set.now c.loop-one.one-index c.one-item.result c.loop-one-test.true c.one-item.is in
+      let front = weight_front c.args.set.now (c.loop-one.one-index + 1) in
+      let size = c.in_ok-size.ensures in
+      omega (arith, more, front, size),
   λ l. refl,
 )
 
-pub loop-entry-preserved : goal.loop-entry-preserved
-loop-entry-preserved c =
-    let more = weight_more c.args.set.now c.loop-entry.entry-index c.entry-item.result c.loop-entry-test.true c.entry-item.is in
-    record { sum = omega (arith, more); few = omega arith }
+pub loop-one-preserved : goal.loop-one-preserved
+loop-one-preserved c =
+    let more = weight_more c.args.set.now c.loop-one.one-index c.one-item.result c.loop-one-test.true c.one-item.is in
+    let size = c.in_ok-size.ensures in
+    record { sum = omega (arith, more, size); few = omega arith }

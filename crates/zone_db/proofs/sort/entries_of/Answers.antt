@@ -1,7 +1,12 @@
 use Rattle.std.proofs.Common.{◌++◌, ◌∷◌, [], ap, ◌∙◌, take}
 use Rattle.zone_db.specs.Building.{givens_from}
+use Rattle.zone_db.proofs.ListLemmas.{read_in}
 use Rattle.zone_db.proofs.SortLemmas.{givens_next}
 use Rattle.zone_db.proofs.sort.entries_of.Goals as goal
+
+pub new-requires : goal.new-requires
+new-requires c =
+    c.requires c.index-records-place.result (read_in c.args.records.now c.loop-place.place c.index-records-place.result c.loop-place-test.true c.index-records-place.is)
 
 pub loop-place-preserved : goal.loop-place-preserved
 loop-place-preserved c =

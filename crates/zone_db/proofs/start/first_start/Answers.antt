@@ -1,5 +1,4 @@
 use Rattle.std.proofs.Common.{inl, inr, sym, ap, ◌∙◌}
-use Rattle.dns_wire.specs.declared.record.Record.{Record}
 use Rattle.zone_db.specs.Building.{Given}
 use Rattle.zone_db.proofs.ListLemmas.{turn_of, turned_all}
 use Rattle.zone_db.proofs.start.first_start.Goals as goal
@@ -7,7 +6,7 @@ use Rattle.zone_db.proofs.start.first_start.Goals as goal
 pub loop-entry-preserved : goal.loop-entry-preserved
 loop-entry-preserved c = λ e k is. elim (turn_of c.args.entries.now c.loop-entry.entry-index c.entry-item.result e c.loop-entry-test.true c.entry-item.is k) [
   | inl old ↦ c.loop-entry.invariant e old is
-  | inr new ↦ c.if-record-eq6.false (ap (λ (r : Record). r.kind) c.record.ensures ∙ ap (λ (g : Given). g.given.kind) (sym new) ∙ is)
+  | inr new ↦ c.if-kind-eq6.false (c.kind.ensures ∙ ap (λ (g : Given). g.given.kind) (sym new) ∙ is)
 ]
 
 pub returns : goal.returns
