@@ -18,12 +18,11 @@ use Rattle.zone_text.specs.declared.fault.TextWhy.{TextWhy}
 use Rattle.zone_text.specs.declared.fault.TextWhy.TheVariants as text
 use Rattle.zone_text.specs.declared.meaning.Statement.{Statement}
 use Rattle.enum_top.specs.Running.{Does, LeftBytes, LeftText, Refuses}
-use Rattle.enum_top.specs.Verdicts.Then.{goes, stops}
-use Rattle.enum_top.specs.ZoneFiles.{Files, TextAt, Texts, found}
+use Rattle.enum_base.specs.Stages.Then.{goes, stops}
+use Rattle.enum_top.specs.ZoneFiles.{Files, TextAt, found}
 use Rattle.enum_top.specs.declared.cause.Cause.{Cause}
 use Rattle.enum_top.specs.declared.cause.Cause.TheVariants.{Absent, Text}
 use Rattle.enum_top.specs.declared.refusal.Refusal.{Refusal}
-use Rattle.enum_top.specs.declared.refusal.Refusal.TheVariants.{IllFormed, Memory}
 use Rattle.enum_top.specs.declared.status.Object.{Object}
 use Rattle.enum_top.proofs.DoesLemmas.{ill_formed}
 

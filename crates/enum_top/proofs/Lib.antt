@@ -2,8 +2,12 @@ mod AskedLemmas
 mod DoesLemmas
 mod FileLemmas
 mod FileLoops
+mod HexLemmas
+mod Idle
+mod InputLemmas
 mod LineLemmas
 mod OneAnswer
+mod OneMessage
 mod OneZones
 mod PrintLemmas
 mod RequestLaws
@@ -11,3 +15,7 @@ mod RunLemmas
 mod StageLaws
 mod Statuses
 mod Walks
+mod SomeNumber
+mod SomeVerdict
+mod SomeZones
+mod SomeMessage

@@ -1,5 +1,5 @@
 -- The zones of told files are one list, or one cause stops them.
-use Rattle.std.proofs.Common.{◌≡◌, inl, inr, ℕ, List, [], ◌∷◌, ◌++◌, Some, Result, Ok, Err, refl, sym, ap, ◌∙◌}
+use Rattle.std.proofs.Common.{◌≡◌, inl, inr, ℕ, List, [], ◌∷◌, Some, Result, Ok, Err, sym, ap, ◌∙◌}
 use Rattle.dns_wire.specs.declared.record.Record.{Record}
 use Rattle.enum_base.specs.Outside.{File}
 use Rattle.naptr_data.specs.Zones.{Labels}
@@ -11,7 +11,7 @@ use Rattle.zone_text.specs.declared.fault.TextWhy.{TextWhy}
 use Rattle.enum_top.specs.ZoneFiles.{Adds, Builds, Texts, ZonesFrom}
 use Rattle.enum_top.specs.declared.cause.Cause.{Cause}
 use Rattle.enum_top.specs.declared.cause.Cause.TheVariants as cause
-use Rattle.enum_top.proofs.StageLaws.{IsSingle, IsSingle-is, IsSingle-then}
+use Rattle.enum_base.proofs.StageLaws.{IsSingle, IsSingle-is, IsSingle-then}
 
 -- the laws of zone texts and of zones
 pub record AreLaws : Type 0 where

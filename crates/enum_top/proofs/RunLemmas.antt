@@ -15,7 +15,7 @@ use Rattle.enum_top.specs.declared.cause.Cause.{Cause}
 use Rattle.enum_top.specs.declared.refusal.Refusal.{Refusal}
 use Rattle.enum_top.specs.declared.refusal.Refusal.TheVariants.{Usage, IllFormed, Outside, Memory}
 use Rattle.enum_top.specs.declared.status.Ending.{Ending}
-use Rattle.enum_top.specs.declared.status.Object.TheVariants.{Shelf, Output}
+use Rattle.enum_top.specs.declared.status.Object.TheVariants.{Shelf, Input, Output}
 use Rattle.enum_top.specs.declared.status.Status.{Status}
 use Rattle.enum_top.specs.declared.status.Status.TheVariants as status
 use Rattle.enum_top.proofs.Statuses.{at_ending, at_refusal, at_cause}
@@ -63,8 +63,8 @@ module _ (told : Told) (words : List (List ℕ)) (out out' err err' : SinkState)
   pub ends_line : (why : Refusal) → IsPlain why → end ≡ ended_as why → Takes err err' (line_of words why)
   ends_line why p e = r.tells why (at_refusal r.result why p (sym r.is ∙ e))
 
-  pub ends_answered : (request : Request) → Means words request → (end ≡ status.Outside Shelf → ⊥) → (end ≡ status.Outside Output → ⊥) → ((verdict : Verdict) × Answers told words request verdict × EndsWith words verdict end out out' err err') ⊎ (end ≡ status.Memory)
-  ends_answered request means no_shelf no_output = at r.result refl
+  pub ends_answered : (request : Request) → Means words request → (end ≡ status.Outside Shelf → ⊥) → (end ≡ status.Outside Input → ⊥) → (end ≡ status.Outside Output → ⊥) → ((verdict : Verdict) × Answers told words request verdict × EndsWith words verdict end out out' err err') ⊎ (end ≡ status.Memory)
+  ends_answered request means no_shelf no_input no_output = at r.result refl
     where
       at : (result : Result Ending Refusal) → r.result ≡ result → ((verdict : Verdict) × Answers told words request verdict × EndsWith words verdict end out out' err err') ⊎ (end ≡ status.Memory)
       at (Ok ending) e =
@@ -75,11 +75,12 @@ module _ (told : Told) (words : List (List ℕ)) (out out' err err' : SinkState)
           let found = r.runs.refused cause e in
           inl (refuses found.0 cause, answers_of told words request (refuses found.0 cause) means found.1, (r.is ∙ ap ended e, found.2, r.tells (IllFormed cause) e))
       at (Err (Outside Shelf)) e = absurd (no_shelf (r.is ∙ ap ended e))
+      at (Err (Outside Input)) e = absurd (no_input (r.is ∙ ap ended e))
       at (Err (Outside Output)) e = absurd (no_output (r.is ∙ ap ended e))
       at (Err Memory) e = inr (r.is ∙ ap ended e)
 
-  pub ends_always : HasOneVerdict → (request : Request) (verdict : Verdict) → Means words request → AreTold request told → Answers told words request verdict → (end ≡ status.Outside Shelf → ⊥) → (end ≡ status.Outside Output → ⊥) → EndsWith words verdict end out out' err err' ⊎ (end ≡ status.Memory)
-  ends_always law request verdict means seen h no_shelf no_output = at (ends_answered request means no_shelf no_output)
+  pub ends_always : HasOneVerdict → (request : Request) (verdict : Verdict) → Means words request → AreTold request told → Answers told words request verdict → (end ≡ status.Outside Shelf → ⊥) → (end ≡ status.Outside Input → ⊥) → (end ≡ status.Outside Output → ⊥) → EndsWith words verdict end out out' err err' ⊎ (end ≡ status.Memory)
+  ends_always law request verdict means seen h no_shelf no_input no_output = at (ends_answered request means no_shelf no_input no_output)
     where
       at : ((other : Verdict) × Answers told words request other × EndsWith words other end out out' err err') ⊎ (end ≡ status.Memory) → EndsWith words verdict end out out' err err' ⊎ (end ≡ status.Memory)
       at (inl (other, a, ends)) = inl (subst (λ (v : Verdict). EndsWith words v end out out' err err') (law told words request other verdict seen a h) ends)

@@ -19,7 +19,7 @@ use Rattle.snaptr_app.specs.App.{snaptr_meaning, unaptr_meaning}
 use Rattle.snaptr_app.specs.Domain.{domain_fault, key_of}
 use Rattle.snaptr_app.specs.declared.fault.DomainFault.{DomainFault}
 use Rattle.snaptr_app.specs.declared.fault.DomainFault.TheVariants.{BadName}
-use Rattle.enum_top.specs.Verdicts.{Then}
+use Rattle.enum_base.specs.Stages.{Then}
 use Rattle.enum_top.specs.declared.cause.Cause.{Cause}
 use Rattle.enum_top.specs.declared.cause.Cause.TheVariants as cause
 

@@ -1,6 +1,7 @@
 -- The line that tells why a run ended without a text (this project's own).
 use Rattle.std.specs.Prelude.{ℕ, List, ◌++◌, codes}
 use Rattle.dns_name.specs.FaultWords.{name_fault}
+use Rattle.dns_wire.specs.DecodeFaults.{decode_fault_words}
 use Rattle.enum_app.specs.FaultWords.{number_fault}
 use Rattle.request_words.specs.Words.{text_at}
 use Rattle.service_field.specs.FaultWords.{service_fault}
@@ -8,11 +9,11 @@ use Rattle.snaptr_app.specs.FaultWords.{domain_fault_words}
 use Rattle.zone_db.specs.FaultWords.{add_fault, zone_fault}
 use Rattle.zone_text.specs.FaultWords.{text_fault}
 use Rattle.enum_top.specs.declared.cause.Cause.{Cause}
-use Rattle.enum_top.specs.declared.cause.Cause.TheVariants.{Number, Domain, Want, Apex, Key, Absent, Text, Zone, Set}
+use Rattle.enum_top.specs.declared.cause.Cause.TheVariants.{Number, Domain, Want, Apex, Key, Absent, Text, Zone, Set, InputTooLarge, Hex, Message}
 use Rattle.enum_top.specs.declared.refusal.Refusal.{Refusal}
 use Rattle.enum_top.specs.declared.refusal.Refusal.TheVariants.{Usage, IllFormed, Outside, Memory}
 use Rattle.enum_top.specs.declared.status.Object.{Object}
-use Rattle.enum_top.specs.declared.status.Object.TheVariants.{Shelf, Output}
+use Rattle.enum_top.specs.declared.status.Object.TheVariants.{Shelf, Input, Output}
 
 -- the line of what a file is; the file is named by the word at its place
 abbrev pub file_line : List ℕ → List (List ℕ) → ℕ → List ℕ → List ℕ
@@ -29,10 +30,14 @@ cause_line words (Absent place) = codes "enumd: ill-formed file " ++ text_at wor
 cause_line words (Text file fault) = file_line (codes "enumd: ill-formed text ") words file (text_fault fault)
 cause_line words (Zone file fault) = file_line (codes "enumd: ill-formed zone ") words file (zone_fault fault)
 cause_line words (Set file fault) = file_line (codes "enumd: ill-formed zone ") words file (add_fault fault)
+cause_line words InputTooLarge = codes "enumd: ill-formed input TooLarge\n"
+cause_line words Hex = codes "enumd: ill-formed hex\n"
+cause_line words (Message fault) = codes "enumd: ill-formed message " ++ decode_fault_words fault ++ codes "\n"
 
 -- the line of a call that failed
 abbrev pub outside_line : Object → List ℕ
 outside_line Shelf = codes "enumd: outside shelf\n"
+outside_line Input = codes "enumd: outside input\n"
 outside_line Output = codes "enumd: outside output\n"
 
 -- the line of a refusal

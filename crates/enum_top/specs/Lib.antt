@@ -2,7 +2,9 @@ pub mod Answers
 pub mod Applications
 pub mod Endings
 pub mod FaultLines
+pub mod Inputs
 pub mod Resolving
 pub mod Running
+pub mod Showing
 pub mod Verdicts
 pub mod ZoneFiles

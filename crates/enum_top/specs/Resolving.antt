@@ -11,7 +11,7 @@ use Rattle.zone_db.specs.Zone.{Zone}
 use Rattle.report_text.specs.Printing.{printed}
 use Rattle.request_words.specs.declared.request.AppName.{AppName}
 use Rattle.enum_top.specs.Applications.{Asked, Asks, meaning_of}
-use Rattle.enum_top.specs.Verdicts.{Then}
+use Rattle.enum_base.specs.Stages.{Then}
 use Rattle.enum_top.specs.ZoneFiles.{ZonesOf}
 use Rattle.enum_top.specs.declared.cause.Cause.{Cause}
 use Rattle.enum_top.specs.declared.status.Ending.{Ending}

@@ -10,6 +10,7 @@ use Rattle.zone_text.specs.declared.fault.TextFault.{TextFault}
 use Rattle.zone_text.specs.declared.fault.TextWhy.TheVariants as text
 use Rattle.enum_base.specs.Causes.{Blames}
 use Rattle.enum_base.specs.Outside.{ShelfState, SinkState}
+use Rattle.enum_base.specs.Stages.{Then}
 use Rattle.enum_base.specs.Writing.{Gains, Takes}
 use Rattle.request_words.specs.Words.{Means, IsRequest}
 use Rattle.request_words.specs.declared.request.Request.{Request}
@@ -17,7 +18,7 @@ use Rattle.enum_top.specs.Answers.{Breaks, ComesTo, IsText, Leaves}
 use Rattle.enum_top.specs.Applications as applications
 use Rattle.enum_top.specs.Endings.{status_of, ended_as}
 use Rattle.enum_top.specs.FaultLines.{cause_line, line_of}
-use Rattle.enum_top.specs.Verdicts.{Then, Told, Verdict}
+use Rattle.enum_top.specs.Verdicts.{Told, Verdict}
 use Rattle.enum_top.specs.Verdicts.Verdict.{prints, refuses}
 use Rattle.enum_top.specs.declared.asked.Asked.{Asked}
 use Rattle.enum_top.specs.ZoneFiles.{Texts}
@@ -27,7 +28,7 @@ use Rattle.enum_top.specs.declared.refusal.Refusal.{Refusal}
 use Rattle.enum_top.specs.declared.refusal.Refusal.TheVariants.{Usage, IllFormed, Outside, Memory}
 use Rattle.enum_top.specs.declared.status.Ending.{Ending}
 use Rattle.enum_top.specs.declared.status.Object.{Object}
-use Rattle.enum_top.specs.declared.status.Object.TheVariants.{Shelf, Output}
+use Rattle.enum_top.specs.declared.status.Object.TheVariants.{Shelf, Input, Output}
 use Rattle.enum_top.specs.declared.status.Status.{Status}
 use Rattle.enum_top.specs.declared.status.Status.TheVariants as status
 
@@ -42,6 +43,14 @@ pub record Does {A : Type 0} (Used : Object → Type 0) (One : Result A Cause �
 -- .. that uses the shelf alone
 abbrev pub DoesOnShelf : {A : Type 0} → (Result A Cause → Type 0) → Result A Refusal → Type 0
 DoesOnShelf One result = Does (λ object. object ≡ Shelf) One result
+
+-- .. that uses the input alone
+abbrev pub DoesOnInput : {A : Type 0} → (Result A Cause → Type 0) → Result A Refusal → Type 0
+DoesOnInput One result = Does (λ object. object ≡ Input) One result
+
+-- .. that uses no object
+abbrev pub DoesAlone : {A : Type 0} → (Result A Cause → Type 0) → Result A Refusal → Type 0
+DoesAlone One result = Does (λ object. ⊥) One result
 
 -- a shelf was read: it tells the same files, and it is blamed exactly where its count rose
 pub record ReadsShelf (old new : ShelfState) (Blamed : Type 0) : Type 0 where
@@ -94,6 +103,7 @@ abbrev pub Keeps : Refusal → Type 0
 Keeps Usage = Unit {0}
 Keeps (IllFormed cause) = ⊥
 Keeps (Outside Shelf) = Unit {0}
+Keeps (Outside Input) = Unit {0}
 Keeps (Outside Output) = ⊥
 Keeps Memory = Unit {0}
 

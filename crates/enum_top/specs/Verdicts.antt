@@ -1,18 +1,18 @@
--- What the objects of the outside tell, what a request comes to over it, and how stages of work follow one another (this
--- project's own).
+-- What the objects of the outside tell, and what a request comes to over it (this project's own).
 use Rattle.std.specs.Prelude.{◌≡◌, ℕ, List, [], Option, Result, Ok, Err}
-use Rattle.enum_base.specs.Outside.{File, ShelfState}
+use Rattle.enum_base.specs.Outside.{File, ShelfState, SourceState}
 use Rattle.enum_top.specs.declared.cause.Cause.{Cause}
 use Rattle.enum_top.specs.declared.status.Ending.{Ending}
 use Rattle.enum_top.specs.declared.status.Printed.{Printed}
 
--- what the objects tell: the files of the shelf. What is not told is `None`
+-- what the objects tell: the files of the shelf, and the bytes of the input. What is not told is `None`
 pub record Told : Type 0 where
   pub files : Option (List File)
+  pub input : Option (List ℕ)
 
 -- .. as they stand
-abbrev pub told_by : ShelfState → Told
-told_by shelf = record { files = shelf.files }
+abbrev pub told_by : ShelfState → SourceState → Told
+told_by shelf input = record { files = shelf.files; input = input.left }
 
 -- what a request comes to: a whole text, or a refusal after what was printed before it
 pub data Verdict : Type 0 where
@@ -23,11 +23,6 @@ pub data Verdict : Type 0 where
 abbrev pub gain_of : Verdict → List ℕ
 gain_of (prints ending text) = text
 gain_of (refuses front cause) = front
-
--- one stage goes, and then the next; or it stops, and that is the end
-pub data Then {A B : Type 0} (One : Result A Cause → Type 0) (Next : A → Result B Cause → Type 0) (result : Result B Cause) : Type 0 where
-  goes : (value : A) → One (Ok value) → Next value result → Then One Next result
-  stops : (cause : Cause) → One (Err cause) → result ≡ Err cause → Then One Next result
 
 -- the verdict of a command that prints nothing before it is done
 abbrev pub whole : Result Printed Cause → Verdict

@@ -14,7 +14,7 @@ use Rattle.zone_db.specs.declared.fault.AddFault.{AddFault}
 use Rattle.zone_db.specs.declared.fault.AddFault.TheVariants as add
 use Rattle.zone_db.specs.declared.fault.ZoneFault.{ZoneFault}
 use Rattle.zone_db.specs.declared.fault.ZoneFault.TheVariants as fault
-use Rattle.enum_top.specs.Verdicts.{Then}
+use Rattle.enum_base.specs.Stages.{Then}
 use Rattle.enum_top.specs.declared.cause.Cause.{Cause}
 use Rattle.enum_top.specs.declared.cause.Cause.TheVariants as cause
 

@@ -5,6 +5,7 @@ ghost use Rattle.request_words.specs.Words.{texts_of};
 ghost use Rattle.enum_top.specs.FaultLines.{cause_line};
 
 use dns_name::NameFault;
+use dns_wire::DecodeFault;
 use enum_app::NumberFault;
 use enum_base::{Failed, FaultWords, Sink, write_three, write_two, write_whole};
 use request_words::text_at;
@@ -34,6 +35,12 @@ pub enum Cause {
     Zone { file: usize, fault: ZoneFault },
     /// The zone of this file does not go to those of the files before it.
     Set { file: usize, fault: AddFault },
+    /// The input has more than 16 MiB.
+    InputTooLarge,
+    /// The digits of the input are no bytes in hexadecimal.
+    Hex,
+    /// The bytes are no message.
+    Message(DecodeFault),
 }
 
 impl Cause {
@@ -90,6 +97,14 @@ impl Cause {
                 b"enumd: ill-formed zone ",
                 text_at(words, *file),
                 &fault.words(),
+            ),
+            Cause::InputTooLarge => write_whole(err, b"enumd: ill-formed input TooLarge\n"),
+            Cause::Hex => write_whole(err, b"enumd: ill-formed hex\n"),
+            Cause::Message(fault) => write_three(
+                err,
+                b"enumd: ill-formed message ",
+                fault.words().as_slice(),
+                b"\n",
             ),
         }
     }

@@ -55,6 +55,7 @@ fn outside_bytes(object: Object) -> &'static [u8]
 {
     match object {
         Object::Shelf => b"enumd: outside shelf\n",
+        Object::Input => b"enumd: outside input\n",
         Object::Output => b"enumd: outside output\n",
     }
 }

@@ -10,6 +10,8 @@ use enum_base::Bytes;
 pub enum Object {
     /// The files.
     Shelf,
+    /// What is read from its start to its end, as standard input.
+    Input,
     /// Where the text goes.
     Output,
 }
@@ -35,14 +37,15 @@ pub struct Printed {
 /// How a run ended.
 #[derive(Clone, Copy, Debug, PartialEq, Eq)]
 pub enum Status {
-    /// The job was done; for `resolve`, the report was printed, and it has an end or more.
+    /// The job was done: the report was printed, and it has an end or more; or the message was printed.
     Done,
     /// The report was printed, and it has no end.
     Nothing,
     /// The words are no request.
     Usage,
     /// The string, the wanted list, the apex or the number's domain is ill-formed; or a file is not there, its text is
-    /// ill-formed, its records make no zone, or its zone does not go to those before it.
+    /// ill-formed, its records make no zone, or its zone does not go to those before it; or the input is too large, no
+    /// hexadecimal, or no message.
     IllFormed,
     /// The report was printed, and it is a loop.
     Loop,

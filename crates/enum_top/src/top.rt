@@ -15,20 +15,22 @@ ghost use Rattle.enum_top.specs.declared.refusal.Refusal.{Refusal};
 ghost use Rattle.enum_top.specs.declared.refusal.Refusal.TheVariants as refusal;
 ghost use Rattle.enum_top.specs.declared.status.Ending.{Ending};
 
-use crate::commands::resolve_text;
+use crate::commands::{resolve_text, show_text};
 use crate::laws::one_verdict;
 use crate::refusal::Refusal;
 use crate::status::{Ending, Object, Printed, Status};
-use enum_base::{Shelf, Sink, write_whole};
+use enum_base::{Shelf, Sink, Source, write_whole};
 use request_words::{Origin, Request, read_words};
 use std::alloc::Global;
 
-/// Does what the words ask for, and says how it ended. `words` leaves out the program's own name. The text goes to `out`, and
-/// after a refusal one line to `err`; a failure of `err` changes nothing else.
-pub fn run<S: Shelf, O: Sink, E: Sink>(
+/// Does what the words ask for, and says how it ended. `words` leaves out the program's own name. Files are read from
+/// `shelf`, and a message from `input`; the text goes to `out`, and after a refusal one line to `err`. A failure of `err`
+/// changes nothing else.
+pub fn run<S: Shelf, I: Source, O: Sink, E: Sink>(
     alloc: Global,
     words: &[String],
     shelf: &mut S,
+    input: &mut I,
     out: &mut O,
     err: &mut E,
 ) -> Status
@@ -39,40 +41,44 @@ pub fn run<S: Shelf, O: Sink, E: Sink>(
 
     // Only where: what was printed, or why not, is what the request comes to, whether the objects tell what they hold or not.
     ensures printed { (ending : Ending) → result ≡ status_of ending
-        → (text : List ℕ) × ComesTo (told_by (S.state shelf.old)) (texts_of words.now) (prints ending text)
+        → (text : List ℕ) × ComesTo (told_by (S.state shelf.old) (I.state input.old)) (texts_of words.now) (prints ending text)
         × Gains (O.state out.old) (O.state out.new) text }
     ensures ill_formed { result ≡ Status.IllFormed
         → (cause : Cause)
-        × ((front : List ℕ) × ComesTo (told_by (S.state shelf.old)) (texts_of words.now) (refuses front cause)
+        × ((front : List ℕ) × ComesTo (told_by (S.state shelf.old) (I.state input.old)) (texts_of words.now) (refuses front cause)
         × Gains (O.state out.old) (O.state out.new) front)
         × Takes (E.state err.old) (E.state err.new) (cause_line (texts_of words.now) cause) }
 
     // There always: where no count but that of `err` rose, the run ends by what the request comes to.
     ensures answered { (request : Request) → Means (texts_of words.now) request
         → ¬ Rose (S.state shelf.old).faults (S.state shelf.new).faults
+        → ¬ Rose (I.state input.old).faults (I.state input.new).faults
         → ¬ Rose (O.state out.old).faults (O.state out.new).faults
-        → ((verdict : Verdict) × Answers (told_by (S.state shelf.old)) (texts_of words.now) request verdict
+        → ((verdict : Verdict) × Answers (told_by (S.state shelf.old) (I.state input.old)) (texts_of words.now) request verdict
         × EndsWith (texts_of words.now) verdict result (O.state out.old) (O.state out.new) (E.state err.old) (E.state err.new))
         ⊎ (result ≡ Status.Memory) }
     ensures always { (request : Request) (verdict : Verdict) → Means (texts_of words.now) request
-        → AreTold request (told_by (S.state shelf.old))
-        → Answers (told_by (S.state shelf.old)) (texts_of words.now) request verdict
+        → AreTold request (told_by (S.state shelf.old) (I.state input.old))
+        → Answers (told_by (S.state shelf.old) (I.state input.old)) (texts_of words.now) request verdict
         → ¬ Rose (S.state shelf.old).faults (S.state shelf.new).faults
+        → ¬ Rose (I.state input.old).faults (I.state input.new).faults
         → ¬ Rose (O.state out.old).faults (O.state out.new).faults
         → EndsWith (texts_of words.now) verdict result (O.state out.old) (O.state out.new) (E.state err.old) (E.state err.new)
         ⊎ (result ≡ Status.Memory) }
 
     // The objects of the outside.
     ensures shelf { ReadsShelf (S.state shelf.old) (S.state shelf.new) (result ≡ Status.Outside Object.Shelf) }
+    ensures input { Blames (I.state input.old).faults (I.state input.new).faults (result ≡ Status.Outside Object.Input) }
     ensures output { Blames (O.state out.old).faults (O.state out.new).faults (result ≡ Status.Outside Object.Output) }
     ensures unused_shelf { ¬ Need (texts_of words.now) Object.Shelf → shelf.new ≡ shelf.old }
+    ensures unused_input { ¬ Need (texts_of words.now) Object.Input → input.new ≡ input.old }
 
     // What the output holds otherwise.
     ensures kept { (why : Refusal) → Keeps why → result ≡ ended_as why
-        → (front : List ℕ) × Leaves (told_by (S.state shelf.old)) (texts_of words.now) front
+        → (front : List ℕ) × Leaves (told_by (S.state shelf.old) (I.state input.old)) (texts_of words.now) front
         × Gains (O.state out.old) (O.state out.new) front }
     ensures cut { result ≡ Status.Outside Object.Output
-        → (text : List ℕ) × IsText (told_by (S.state shelf.old)) (texts_of words.now) text
+        → (text : List ℕ) × IsText (told_by (S.state shelf.old) (I.state input.old)) (texts_of words.now) text
         × ((n : ℕ) × Gains (O.state out.old) (O.state out.new) (take n text)) }
 
     // What the sink of the fault lines holds.
@@ -81,24 +87,27 @@ pub fn run<S: Shelf, O: Sink, E: Sink>(
         → Takes (E.state err.old) (E.state err.new) (line_of (texts_of words.now) why) }
 {
     one_verdict();
-    perform(alloc, words, shelf, out, err)
+    perform(alloc, words, shelf, input, out, err)
 }
 
 // The same, with one clause on how the answer comes.
-fn perform<S: Shelf, O: Sink, E: Sink>(
+fn perform<S: Shelf, I: Source, O: Sink, E: Sink>(
     alloc: Global,
     words: &[String],
     shelf: &mut S,
+    input: &mut I,
     out: &mut O,
     err: &mut E,
 ) -> Status
-    ensures ends { Ends (told_by (S.state shelf.old)) (texts_of words.now) (O.state out.old) (O.state out.new) (E.state err.old) (E.state err.new) result }
+    ensures ends { Ends (told_by (S.state shelf.old) (I.state input.old)) (texts_of words.now) (O.state out.old) (O.state out.new) (E.state err.old) (E.state err.new) result }
     ensures untouched { (ending : Ending) → result ≡ status_of ending → err.new ≡ err.old }
     ensures shelf { ReadsShelf (S.state shelf.old) (S.state shelf.new) (result ≡ Status.Outside Object.Shelf) }
+    ensures input { Blames (I.state input.old).faults (I.state input.new).faults (result ≡ Status.Outside Object.Input) }
     ensures output { Blames (O.state out.old).faults (O.state out.new).faults (result ≡ Status.Outside Object.Output) }
     ensures unused_shelf { ¬ Need (texts_of words.now) Object.Shelf → shelf.new ≡ shelf.old }
+    ensures unused_input { ¬ Need (texts_of words.now) Object.Input → input.new ≡ input.old }
 {
-    match answer(alloc, words, shelf, out) {
+    match answer(alloc, words, shelf, input, out) {
         Ok(ending) => ending.status(),
         Err(refusal) => {
             let _ = refusal.tell(words, err);
@@ -108,38 +117,44 @@ fn perform<S: Shelf, O: Sink, E: Sink>(
 }
 
 // What a run does, up to the line that tells a refusal.
-fn answer<S: Shelf, O: Sink>(
+fn answer<S: Shelf, I: Source, O: Sink>(
     alloc: Global,
     words: &[String],
     shelf: &mut S,
+    input: &mut I,
     out: &mut O,
 ) -> Result<Ending, Refusal>
-    ensures runs { Runs (told_by (S.state shelf.old)) (texts_of words.now) (O.state out.old) (O.state out.new) result }
+    ensures runs { Runs (told_by (S.state shelf.old) (I.state input.old)) (texts_of words.now) (O.state out.old) (O.state out.new) result }
     ensures shelf { ReadsShelf (S.state shelf.old) (S.state shelf.new) (IsErrOf result (refusal.Outside Object.Shelf)) }
+    ensures input { Blames (I.state input.old).faults (I.state input.new).faults (IsErrOf result (refusal.Outside Object.Input)) }
     ensures output { Blames (O.state out.old).faults (O.state out.new).faults (IsErrOf result (refusal.Outside Object.Output)) }
     ensures unused_shelf { ¬ Need (texts_of words.now) Object.Shelf → shelf.new ≡ shelf.old }
+    ensures unused_input { ¬ Need (texts_of words.now) Object.Input → input.new ≡ input.old }
 {
     match read_words(words) {
-        Ok(request) => print(alloc, words, &request, shelf, out),
+        Ok(request) => print(alloc, words, &request, shelf, input, out),
         Err(_) => Err(Refusal::Usage),
     }
 }
 
 // The text of a request is printed.
-fn print<S: Shelf, O: Sink>(
+fn print<S: Shelf, I: Source, O: Sink>(
     alloc: Global,
     words: &[String],
     request: &Request,
     shelf: &mut S,
+    input: &mut I,
     out: &mut O,
 ) -> Result<Ending, Refusal>
     requires { Means (texts_of words.now) request.now }
-    ensures runs { Runs (told_by (S.state shelf.old)) (texts_of words.now) (O.state out.old) (O.state out.new) result }
+    ensures runs { Runs (told_by (S.state shelf.old) (I.state input.old)) (texts_of words.now) (O.state out.old) (O.state out.new) result }
     ensures shelf { ReadsShelf (S.state shelf.old) (S.state shelf.new) (IsErrOf result (refusal.Outside Object.Shelf)) }
+    ensures input { Blames (I.state input.old).faults (I.state input.new).faults (IsErrOf result (refusal.Outside Object.Input)) }
     ensures output { Blames (O.state out.old).faults (O.state out.new).faults (IsErrOf result (refusal.Outside Object.Output)) }
     ensures unused_shelf { ¬ Uses request.now Object.Shelf → shelf.new ≡ shelf.old }
+    ensures unused_input { ¬ Uses request.now Object.Input → input.new ≡ input.old }
 {
-    let printed = text_of(alloc, words, request, shelf)?;
+    let printed = text_of(alloc, words, request, shelf, input)?;
     match write_whole(out, printed.text.as_slice()) {
         Ok(()) => Ok(printed.ending),
         Err(_) => Err(Refusal::Outside(Object::Output)),
@@ -147,32 +162,38 @@ fn print<S: Shelf, O: Sink>(
 }
 
 // The text of a request.
-fn text_of<S: Shelf>(
+#[tactic(auto, using(crate::proofs::Idle::idle, crate::proofs::Idle::idle_shelf))]
+fn text_of<S: Shelf, I: Source>(
     alloc: Global,
     words: &[String],
     request: &Request,
     shelf: &mut S,
+    input: &mut I,
 ) -> Result<Printed, Refusal>
-    ensures does { Does (Uses request.now) (λ printed. Answers (told_by (S.state shelf.old)) (texts_of words.now) request.now (whole printed)) result }
+    ensures does { Does (Uses request.now) (λ printed. Answers (told_by (S.state shelf.old) (I.state input.old)) (texts_of words.now) request.now (whole printed)) result }
     ensures early { (cause : Cause) → Breaks (texts_of words.now) request.now cause → IsErrOf result (refusal.IllFormed cause) }
     ensures shelf { ReadsShelf (S.state shelf.old) (S.state shelf.new) (IsErrOf result (refusal.Outside Object.Shelf)) }
+    ensures input { Blames (I.state input.old).faults (I.state input.new).faults (IsErrOf result (refusal.Outside Object.Input)) }
     ensures unused_shelf { ¬ Uses request.now Object.Shelf → shelf.new ≡ shelf.old }
+    ensures unused_input { ¬ Uses request.now Object.Input → input.new ≡ input.old }
 {
-    let Request::Resolve {
-        app,
-        string,
-        want,
-        apex,
-        origin: Origin::Files(places),
-    } = request;
-    resolve_text(
-        alloc,
-        words,
-        *app,
-        *string,
-        *want,
-        *apex,
-        places.as_slice(),
-        shelf,
-    )
+    match request {
+        Request::Resolve {
+            app,
+            string,
+            want,
+            apex,
+            origin: Origin::Files(places),
+        } => resolve_text(
+            alloc,
+            words,
+            *app,
+            *string,
+            *want,
+            *apex,
+            places.as_slice(),
+            shelf,
+        ),
+        Request::Show => show_text(alloc, input),
+    }
 }

@@ -4,7 +4,7 @@ ghost use Rattle.enum_base.specs.Loading.{AreTaken, TakesAtMost};
 ghost use Rattle.enum_base.specs.Outside.{WhereTold};
 ghost use Rattle.request_words.specs.Words.{text_at, texts_of};
 ghost use Rattle.zone_text.specs.Zone.{most_bytes};
-ghost use Rattle.enum_top.specs.Running.{Does, DoesOnShelf, LeftText, ReadsShelf, Refuses};
+ghost use Rattle.enum_top.specs.Running.{DoesAlone, DoesOnShelf, LeftText, ReadsShelf, Refuses};
 ghost use Rattle.enum_top.specs.ZoneFiles.{TextAt, Texts};
 ghost use Rattle.enum_top.specs.declared.refusal.Refusal.TheVariants as refusal;
 
@@ -69,7 +69,7 @@ fn read_rest<S: Shelf>(alloc: Global, place: usize, shelf: &mut S) -> Result<Rec
 fn records_of(place: usize, reader: ZoneReader) -> Result<Records, Refusal>
     requires root { reader.origin ≡ [] }
     requires unbroken { reader.fault ≡ None }
-    ensures { Does (λ object. ⊥) (Texts place reader.text) result }
+    ensures { DoesAlone (Texts place reader.text) result }
 {
     match reader.end() {
         Ok(records) => Ok(records),

@@ -3,7 +3,7 @@ ghost use Rattle.std.specs.Prelude.{Contains, IsErrOf};
 ghost use Rattle.dns_wire.specs.declared.record.Record.{Record};
 ghost use Rattle.request_words.specs.Words.{texts_of};
 ghost use Rattle.zone_db.specs.Zone.{IsPlain};
-ghost use Rattle.enum_top.specs.Running.{Does, DoesOnShelf, ReadsShelf, zones_after};
+ghost use Rattle.enum_top.specs.Running.{DoesAlone, DoesOnShelf, ReadsShelf, zones_after};
 ghost use Rattle.enum_top.specs.ZoneFiles.{Adds, Builds, ZoneAt, ZonesOf};
 ghost use Rattle.enum_top.specs.declared.refusal.Refusal.TheVariants as refusal;
 
@@ -52,7 +52,7 @@ fn read_zone<S: Shelf>(
 // The zone of the records of one file.
 fn build_zone(alloc: Global, place: usize, records: Records) -> Result<Zone, Refusal>
     requires plain { (one : Record) → Contains records one → IsPlain one }
-    ensures { Does (λ object. ⊥) (Builds place records) result }
+    ensures { DoesAlone (Builds place records) result }
 {
     match Zone::build(alloc, records) {
         Ok(zone) => Ok(zone),
@@ -63,7 +63,7 @@ fn build_zone(alloc: Global, place: usize, records: Records) -> Result<Zone, Ref
 
 // The zone of one file goes after the others.
 fn add_zone(place: usize, zone: Zone, zones: &mut ZoneSet) -> Result<(), Refusal>
-    ensures { Does (λ object. ⊥) (λ done. Adds place zones.old zone (zones_after zones.new done)) result }
+    ensures { DoesAlone (λ done. Adds place zones.old zone (zones_after zones.new done)) result }
 {
     match zones.add(zone) {
         Ok(()) => Ok(()),

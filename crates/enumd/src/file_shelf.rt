@@ -1,7 +1,7 @@
 //! Real files as a shelf.
-ghost use Rattle.std.specs.Prelude.{◌≡◌, ◌≤◌, None};
-ghost use Rattle.enum_base.specs.Causes.{one_more};
+ghost use Rattle.std.specs.Prelude.{◌≡◌, None};
 
+use crate::faults::Faults;
 use enum_base::{Failed, Shelf};
 use std::fs;
 use std::io::{ErrorKind, Read};
@@ -14,7 +14,7 @@ use std::rt::Files;
 pub struct FileShelf<'a, R: Files> {
     runtime: &'a R,
     open: Option<R::File>,
-    faults: u64,
+    faults: Faults,
 }
 
 impl<'a, R: Files> Model for FileShelf<'a, R> {
@@ -33,17 +33,8 @@ impl<'a, R: Files> FileShelf<'a, R> {
         FileShelf {
             runtime,
             open: None,
-            faults: 0,
+            faults: Faults::none(),
         }
-    }
-
-    // Counts an error.
-    fn fault(&mut self) -> Failed
-        ensures raised { self.new ≡ one_more self.old }
-        ensures later { self.old ≤ self.new }
-    {
-        self.faults = self.faults.saturating_add(1);
-        Failed
     }
 }
 
@@ -59,7 +50,7 @@ impl<R: Files> Shelf for FileShelf<'_, R> {
                 Ok(true)
             }
             Err(error) if error.kind() == ErrorKind::NotFound => Ok(false),
-            Err(_) => Err(self.fault()),
+            Err(_) => Err(self.faults.raise()),
         }
     }
 
@@ -70,7 +61,7 @@ impl<R: Files> Shelf for FileShelf<'_, R> {
         };
         match file.read(buf) {
             Ok(count) => Ok(count),
-            Err(_) => Err(self.fault()),
+            Err(_) => Err(self.faults.raise()),
         }
     }
 }
@@ -117,7 +108,7 @@ mod tests {
         ];
         for (name, wanted, faults) in table {
             assert_eq!(rt; read_thrice(&mut shelf, name), wanted, "{name}");
-            assert_eq!(rt; shelf.faults, faults, "{name}");
+            assert_eq!(rt; shelf.faults.count(), faults, "{name}");
         }
         assert_eq!(rt; shelf.read(&mut [0; 4]), Ok(0));
         assert_eq!(rt; shelf.fetch("folder"), Ok(true));

@@ -5,12 +5,13 @@ pub const HELP: &str = "\
 usage: enumd resolve enum NUMBER --zones FILE [options]
        enumd resolve snaptr DOMAIN --zones FILE [options]
        enumd resolve unaptr DOMAIN --zones FILE [options]
+       enumd show
        enumd --help
        enumd --version
 
 enumd resolves telephone numbers to URIs by the rules of zones (ENUM, RFC 6116),
 and domains to servers and URIs of a service (S-NAPTR, RFC 3958; U-NAPTR, RFC
-4848).
+4848). It also prints messages of DNS.
 
 Commands:
   resolve enum NUMBER
@@ -19,6 +20,10 @@ Commands:
       prints one line for each end of a number, as +442079460148, or a domain,
       as example.com, and last a line with the number of ends; or the least
       loop, where the rules lead round in a circle
+  show
+      reads a message of DNS (RFC 1035) in hexadecimal from standard input, of
+      at most 16 MiB with its blanks, and prints its header, its questions and
+      its records, a line each
 
 Options of resolve, in any order:
   --zones FILE  a zone file; 1 to 64 times, each with an apex of its own
@@ -26,13 +31,14 @@ Options of resolve, in any order:
   --apex NAME   the domain under which numbers stand (e164.arpa.); enum alone
 
 Exit statuses:
-  0  done: there is an end or more
+  0  done: there is an end or more, or the message was printed
   1  nothing: there is no end
   2  the words are no command
   3  the number, the domain, the list or the apex is ill-formed; or a file is
-     not there, its text is ill-formed, or its records make no zone
+     not there, its text is ill-formed, or its records make no zone; or the
+     input is too large, no hexadecimal, or no message
   4  there is a loop
-  5  reading a file or writing the output failed
+  5  reading a file or the input, or writing the output failed
   6  memory ran out
 ";
 

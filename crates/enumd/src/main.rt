@@ -1,9 +1,11 @@
 //! The program `enumd`: the top call over real files and the standard streams.
 #![tactic(auto)]
 
+mod faults;
 mod file_shelf;
 mod help;
 mod std_sink;
+mod std_source;
 
 use enum_top::{Object, Status, run};
 use file_shelf::FileShelf;
@@ -11,6 +13,7 @@ use help::{HELP, VERSION};
 use std::process::ExitCode;
 use std::{env, io};
 use std_sink::StdSink;
+use std_source::StdSource;
 
 fn main(rt: HostRuntime) -> ExitCode {
     let words = match read_words(&rt) {
@@ -30,9 +33,18 @@ fn main(rt: HostRuntime) -> ExitCode {
         }
     }
     let mut shelf = FileShelf::new(&rt);
+    let mut input = StdSource::new(rt.stdin());
     let mut out = StdSink::new(rt.stdout());
     let mut err = StdSink::new(rt.stderr());
-    exit_code(run(rt.alloc(), words.as_slice(), &mut shelf, &mut out, &mut err))
+    let status = run(
+        rt.alloc(),
+        words.as_slice(),
+        &mut shelf,
+        &mut input,
+        &mut out,
+        &mut err,
+    );
+    exit_code(status)
 }
 
 // The words of the command line, without the program's own name.

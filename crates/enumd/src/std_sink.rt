@@ -1,7 +1,7 @@
 //! A standard stream, or any other writer, as a sink.
 ghost use Rattle.std.specs.Prelude.{◌≡◌, ◌<◌, ◌≤◌, length, None, IfSome};
-ghost use Rattle.enum_base.specs.Causes.{one_more};
 
+use crate::faults::Faults;
 use enum_base::{Failed, Sink};
 use std::io::Write;
 use std::marker::Model;
@@ -11,7 +11,7 @@ use std::marker::Model;
 #[derive(Drop)]
 pub struct StdSink<W: Write + Drop> {
     writer: W,
-    faults: u64,
+    faults: Faults,
 }
 
 impl<W: Write + Drop> Model for StdSink<W> {
@@ -27,16 +27,10 @@ impl<W: Write + Drop> StdSink<W> {
     pub fn new(writer: W) -> Self
         ensures { result ≡ 0 }
     {
-        StdSink { writer, faults: 0 }
-    }
-
-    // Counts an error.
-    fn fault(&mut self) -> Failed
-        ensures raised { self.new ≡ one_more self.old }
-        ensures later { self.old ≤ self.new }
-    {
-        self.faults = self.faults.saturating_add(1);
-        Failed
+        StdSink {
+            writer,
+            faults: Faults::none(),
+        }
     }
 }
 
@@ -46,7 +40,7 @@ impl<W: Write + Drop> Sink for StdSink<W> {
     fn write(&mut self, bytes: &[u8]) -> Result<usize, Failed> {
         match write_some(&mut self.writer, bytes) {
             Some(count) => Ok(count),
-            None => Err(self.fault()),
+            None => Err(self.faults.raise()),
         }
     }
 }
@@ -94,7 +88,7 @@ mod tests {
     fn real_writers(rt: HostRuntime) -> Result<(), Fail> {
         let mut sink = StdSink::new(fs::create(&rt, "out.txt")?);
         assert_eq!(rt; write_twice(&mut sink, b"end 1\n"), [Ok(6), Ok(6), Ok(0)]);
-        assert_eq!(rt; sink.faults, 0);
+        assert_eq!(rt; sink.faults.count(), 0);
         assert_eq!(rt;
             fs::read_to_string(&rt, "out.txt")?.as_str(),
             "end 1\nend 1\n"
@@ -106,15 +100,15 @@ mod tests {
             write_twice(&mut sink, b"end 1\n"),
             [Ok(4), Err(Failed), Ok(0)]
         );
-        assert_eq!(rt; sink.faults, 1);
+        assert_eq!(rt; sink.faults.count(), 1);
         // What is taken and not passed on is a fault.
         let mut sink = StdSink::new(Stuck);
         assert_eq!(rt; sink.write(b"x"), Err(Failed));
-        assert_eq!(rt; sink.faults, 1);
+        assert_eq!(rt; sink.faults.count(), 1);
         // A file that was opened for reading takes none.
         let mut sink = StdSink::new(fs::open(&rt, "out.txt")?);
         assert_eq!(rt; sink.write(b"x"), Err(Failed));
-        assert_eq!(rt; sink.faults, 1);
+        assert_eq!(rt; sink.faults.count(), 1);
         Ok(())
     }
 }

@@ -10,7 +10,7 @@ use Rattle.std.proofs.lemmas.List.{take_all}
 use Rattle.std.proofs.lemmas.List.Folds.{Any-from_list_any, list_any-from_Any}
 use Rattle.std.proofs.lemmas.Slice.Eq.{bytes_eq-Decides}
 use Rattle.enum_base.specs.Padding.{padded}
-use Rattle.request_words.specs.Reading.{are_options, are_chosen, is_option, is_often, places_in, places_from, first_of, resolve_in, app_in, request_in}
+use Rattle.request_words.specs.Reading.{are_options, are_chosen, is_option, is_often, places_in, places_from, first_of, resolve_in, resolve_options_in, show_in, app_in, request_in}
 use Rattle.request_words.specs.Rows.{option_word, app_word, resolve_choices}
 use Rattle.request_words.specs.Words.{Given, IsOften, IsOption, ArePlaces, Means, MeansResolve, words_of, places_of, texts_of}
 use Rattle.request_words.specs.declared.option.Choice.{Choice}
@@ -20,7 +20,7 @@ use Rattle.request_words.specs.declared.request.AppName.{AppName}
 use Rattle.request_words.specs.declared.request.AppName.TheVariants.{Enum, Snaptr, Unaptr}
 use Rattle.request_words.specs.declared.request.Origin.TheVariants.{Files}
 use Rattle.request_words.specs.declared.request.Request.{Request}
-use Rattle.request_words.specs.declared.request.Request.TheVariants.{Resolve}
+use Rattle.request_words.specs.declared.request.Request.TheVariants.{Resolve, Show}
 use Rattle.request_words.specs.declared.words.Usage.{Usage}
 use Rattle.request_words.proofs.PlaceLemmas.{words_left}
 
@@ -136,13 +136,13 @@ places_only places values a =
 
 -- `resolve`
 
-pub resolve_in-chosen : (app : AppName) (options : List (List ℕ)) → are_chosen (resolve_choices app) options ≡ true → resolve_in app options ≡ Some (Resolve app 2 (first_of (places_from (places_in (option_word Want) 4 options))) (first_of (places_from (places_in (option_word Apex) 4 options))) (Files (places_from (places_in (option_word Zones) 4 options))))
-unfolding resolve_in
-resolve_in-chosen app options e = rw e refl
+pub resolve_options_in-chosen : (app : AppName) (options : List (List ℕ)) → are_chosen (resolve_choices app) options ≡ true → resolve_options_in app options ≡ Some (Resolve app 2 (first_of (places_from (places_in (option_word Want) 4 options))) (first_of (places_from (places_in (option_word Apex) 4 options))) (Files (places_from (places_in (option_word Zones) 4 options))))
+unfolding resolve_options_in
+resolve_options_in-chosen app options e = rw e refl
 
-pub resolve_in-other : (app : AppName) (options : List (List ℕ)) → are_chosen (resolve_choices app) options ≡ false → resolve_in app options ≡ None
-unfolding resolve_in
-resolve_in-other app options e = rw e refl
+pub resolve_options_in-other : (app : AppName) (options : List (List ℕ)) → are_chosen (resolve_choices app) options ≡ false → resolve_options_in app options ≡ None
+unfolding resolve_options_in
+resolve_options_in-other app options e = rw e refl
 
 -- an option that is none of the choices does not stand
 unlisted : (option : List ℕ) (choices : List Choice) → is_option choices option ≡ false → (place : ℕ) (given : List Given) → AllByRecursion (λ one. IsOption choices one.option) given → places_of option place given ≡ []
@@ -188,15 +188,15 @@ meant_options app text given known often =
       zones_are = subst (λ ps. ArePlaces (places_from ps) (places_of (option_word Zones) 4 given)) (sym zones) (places_are _ (few_zones app given often));
     }
 
-resolve_meant : (app : AppName) (text : List ℕ) (options : List (List ℕ)) (request : Request) → resolve_in app options ≡ Some request → Means (codes "resolve" ∷ app_word app ∷ text ∷ options) request
+resolve_meant : (app : AppName) (text : List ℕ) (options : List (List ℕ)) (request : Request) → resolve_options_in app options ≡ Some request → Means (codes "resolve" ∷ app_word app ∷ text ∷ options) request
 resolve_meant app text options request is = by_test (are_chosen (resolve_choices app) options) refl
   where
     by_test : (t : Bool) → are_chosen (resolve_choices app) options ≡ t → Means (codes "resolve" ∷ app_word app ∷ text ∷ options) request
     by_test true e =
         let found = chosen_from (resolve_choices app) options e in
-        let same : Resolve app 2 (first_of (places_from (places_in (option_word Want) 4 options))) (first_of (places_from (places_in (option_word Apex) 4 options))) (Files (places_from (places_in (option_word Zones) 4 options))) ≡ request = cc (sym (resolve_in-chosen app options e) ∙ is) in
+        let same : Resolve app 2 (first_of (places_from (places_in (option_word Want) 4 options))) (first_of (places_from (places_in (option_word Apex) 4 options))) (Files (places_from (places_in (option_word Zones) 4 options))) ≡ request = cc (sym (resolve_options_in-chosen app options e) ∙ is) in
         subst (Means (codes "resolve" ∷ app_word app ∷ text ∷ options)) same (subst (λ (os : List (List ℕ)). MeansResolve app (codes "resolve" ∷ app_word app ∷ text ∷ os) 2 (first_of (places_from (places_in (option_word Want) 4 os))) (first_of (places_from (places_in (option_word Apex) 4 os))) (places_from (places_in (option_word Zones) 4 os))) (sym found.1) (meant_options app text found.0 found.2 found.3))
-    by_test false e = absurd (cc (sym (resolve_in-other app options e) ∙ is))
+    by_test false e = absurd (cc (sym (resolve_options_in-other app options e) ∙ is))
 
 app_from : (word : List ℕ) (app : AppName) → app_in word ≡ Some app → word ≡ app_word app
 app_from word app is = by_tests (bytes_eq word (app_word Enum)) (bytes_eq word (app_word Snaptr)) (bytes_eq word (app_word Unaptr)) refl refl refl is
@@ -212,54 +212,89 @@ app_to Enum = refl
 app_to Snaptr = refl
 app_to Unaptr = refl
 
+-- the words behind a command
+
+resolve_in-cons : (application string : List ℕ) (options : List (List ℕ)) → resolve_in (application ∷ string ∷ options) ≡ option_and_then (λ app. resolve_options_in app options) (app_in application)
+unfolding resolve_in
+resolve_in-cons application string options = refl
+
+resolve_in-short : (rest : List (List ℕ)) (request : Request) → length rest ≤ 1 → resolve_in rest ≡ Some request → ⊥
+unfolding resolve_in
+resolve_in-short [] request h e = cc e
+resolve_in-short (a ∷ []) request h e = cc e
+resolve_in-short (a ∷ b ∷ rest) request h e = absurd (omega arith)
+
+behind_resolve : (rest : List (List ℕ)) (request : Request) → resolve_in rest ≡ Some request → Means (codes "resolve" ∷ rest) request
+behind_resolve [] request is = absurd (resolve_in-short [] request (omega arith) is)
+behind_resolve (a ∷ []) request is = absurd (resolve_in-short (a ∷ []) request (omega arith) is)
+behind_resolve (a ∷ text ∷ options) request is = by_app (app_in a) refl (sym (resolve_in-cons a text options) ∙ is)
+  where
+    by_app : (found : Option AppName) → app_in a ≡ found → option_and_then (λ app. resolve_options_in app options) found ≡ Some request → Means (codes "resolve" ∷ a ∷ text ∷ options) request
+    by_app (Some app) ef e =
+        subst (λ (word : List ℕ). Means (codes "resolve" ∷ word ∷ text ∷ options) request) (sym (app_from a app ef)) (resolve_meant app text options request e)
+    by_app None ef e = absurd (cc e)
+
+behind_show : (rest : List (List ℕ)) (request : Request) → show_in rest ≡ Some request → Means (codes "show" ∷ rest) request
+unfolding show_in
+behind_show [] request is =
+    let same : Show ≡ request = cc is in
+    subst (Means (codes "show" ∷ [])) same ([], record { arguments = []; spelled = refl; count = refl; known = tt; often = tt })
+behind_show (word ∷ rest) request is = absurd (cc is)
+
 -- whole requests
 
-request_in-cons : (command application string : List ℕ) (options : List (List ℕ)) → request_in (command ∷ application ∷ string ∷ options) ≡ (if bytes_eq command (codes "resolve") then option_and_then (λ app. resolve_in app options) (app_in application) else None)
+request_in-cons : (command : List ℕ) (rest : List (List ℕ)) → request_in (command ∷ rest) ≡ (if bytes_eq command (codes "resolve") then resolve_in rest else if bytes_eq command (codes "show") then show_in rest else None)
 unfolding request_in
-request_in-cons command application string options = refl
+request_in-cons command rest = refl
 
-request_in-short : (words : List (List ℕ)) (request : Request) → length words ≤ 2 → request_in words ≡ Some request → ⊥
+request_in-nil : (request : Request) → request_in [] ≡ Some request → ⊥
 unfolding request_in
-request_in-short [] request h e = absurd (cc e)
-request_in-short (a ∷ []) request h e = absurd (cc e)
-request_in-short (a ∷ b ∷ []) request h e = absurd (cc e)
-request_in-short (a ∷ b ∷ c ∷ rest) request h e = absurd (omega arith)
+request_in-nil request e = cc e
 
 -- a request that is read is meant
 request_meant : (words : List (List ℕ)) (request : Request) → request_in words ≡ Some request → Means words request
-request_meant [] request is = absurd (request_in-short [] request (omega arith) is)
-request_meant (a ∷ []) request is = absurd (request_in-short (a ∷ []) request (omega arith) is)
-request_meant (a ∷ b ∷ []) request is = absurd (request_in-short (a ∷ b ∷ []) request (omega arith) is)
-request_meant (a ∷ b ∷ c ∷ rest) request is =
-    by_tests (bytes_eq a (codes "resolve")) refl (app_in b) refl (sym (request_in-cons a b c rest) ∙ is)
+request_meant [] request is = absurd (request_in-nil request is)
+request_meant (a ∷ rest) request is =
+    by_tests (bytes_eq a (codes "resolve")) (bytes_eq a (codes "show")) refl refl (sym (request_in-cons a rest) ∙ is)
   where
-    by_tests : (t : Bool) → bytes_eq a (codes "resolve") ≡ t → (found : Option AppName) → app_in b ≡ found → (if t then option_and_then (λ app. resolve_in app rest) found else None) ≡ Some request → Means (a ∷ b ∷ c ∷ rest) request
-    by_tests true et (Some app) ef e =
-        let first : a ≡ codes "resolve" = (bytes_eq-Decides a (codes "resolve")).0 et in
-        let second : b ≡ app_word app = app_from b app ef in
-        let whole : codes "resolve" ∷ app_word app ∷ c ∷ rest ≡ a ∷ b ∷ c ∷ rest = cc (first, second) in
-        subst (λ (ws : List (List ℕ)). Means ws request) whole (resolve_meant app c rest request e)
-    by_tests true et None ef e = absurd (cc e)
-    by_tests false et found ef e = absurd (cc e)
+    by_tests : (t u : Bool) → bytes_eq a (codes "resolve") ≡ t → bytes_eq a (codes "show") ≡ u → (if t then resolve_in rest else if u then show_in rest else None) ≡ Some request → Means (a ∷ rest) request
+    by_tests true u et eu e =
+        subst (λ (word : List ℕ). Means (word ∷ rest) request) (sym ((bytes_eq-Decides a (codes "resolve")).0 et)) (behind_resolve rest request e)
+    by_tests false true et eu e =
+        subst (λ (word : List ℕ). Means (word ∷ rest) request) (sym ((bytes_eq-Decides a (codes "show")).0 eu)) (behind_show rest request e)
+    by_tests false false et eu e = absurd (cc e)
 
 -- a request that is meant is read
-meant_options_in : (app : AppName) (words : List (List ℕ)) (string : ℕ) (want apex : Option ℕ) (zones : Places) (m : MeansResolve app words string want apex zones) → resolve_in app (words_of m.given) ≡ Some (Resolve app string want apex (Files zones))
+meant_options_in : (app : AppName) (words : List (List ℕ)) (string : ℕ) (want apex : Option ℕ) (zones : Places) (m : MeansResolve app words string want apex zones) → resolve_options_in app (words_of m.given) ≡ Some (Resolve app string want apex (Files zones))
 meant_options_in app words string want apex zones m =
     let w : first_of (places_from (places_in (option_word Want) 4 (words_of m.given))) ≡ want = first_only _ want (places_same (option_word Want) 4 m.given ∙ m.want_is) in
     let x : first_of (places_from (places_in (option_word Apex) 4 (words_of m.given))) ≡ apex = first_only _ apex (places_same (option_word Apex) 4 m.given ∙ m.apex_is) in
     let z : places_from (places_in (option_word Zones) 4 (words_of m.given)) ≡ zones = ap places_from (places_same (option_word Zones) 4 m.given) ∙ places_only zones _ m.zones_are in
     let s : 2 ≡ string = sym m.string_is in
-    resolve_in-chosen app (words_of m.given) (chosen_to (resolve_choices app) m.given m.spelled.known m.spelled.often) ∙ cc (w, x, z, s)
+    resolve_options_in-chosen app (words_of m.given) (chosen_to (resolve_choices app) m.given m.spelled.known m.spelled.often) ∙ cc (w, x, z, s)
 
-spelled_in : (app : AppName) (arguments rest : List (List ℕ)) → length arguments ≡ 1 → request_in ((codes "resolve" ∷ app_word app ∷ []) ++ arguments ++ rest) ≡ resolve_in app rest
+spelled_in : (app : AppName) (arguments rest : List (List ℕ)) → length arguments ≡ 1 → request_in ((codes "resolve" ∷ app_word app ∷ []) ++ arguments ++ rest) ≡ resolve_options_in app rest
 spelled_in app [] rest one = absurd (omega arith)
 spelled_in app (text ∷ []) rest one =
-    request_in-cons (codes "resolve") (app_word app) text rest ∙ ap (option_and_then (λ a. resolve_in a rest)) (app_to app)
+    request_in-cons (codes "resolve") (app_word app ∷ text ∷ rest) ∙ resolve_in-cons (app_word app) text rest ∙ ap (option_and_then (λ a. resolve_options_in a rest)) (app_to app)
 spelled_in app (text ∷ more ∷ arguments) rest one = absurd (omega arith)
+
+-- a row without options
+no_given : (given : List Given) → AllByRecursion (λ one. IsOption [] one.option) given → words_of given ≡ []
+no_given [] known = refl
+no_given (one ∷ rest) known = absurd (cc (list_any-from_Any (λ (choice : Choice). bytes_eq one.option (option_word choice.option)) [] known.0))
+
+show_spelled : (arguments rest : List (List ℕ)) → length arguments ≡ 0 → rest ≡ [] → request_in ((codes "show" ∷ []) ++ arguments ++ rest) ≡ Some Show
+unfolding show_in
+show_spelled [] [] none is = request_in-cons (codes "show") []
+show_spelled [] (word ∷ rest) none is = absurd (cc is)
+show_spelled (word ∷ arguments) rest none is = absurd (omega arith)
 
 meant_request : (words : List (List ℕ)) (request : Request) → Means words request → request_in words ≡ Some request
 meant_request words (Resolve app string want apex (Files zones)) m =
     ap request_in m.spelled.spelled ∙ spelled_in app m.spelled.arguments (words_of m.given) m.spelled.count ∙ meant_options_in app words string want apex zones m
+meant_request words Show (given, m) =
+    ap request_in m.spelled ∙ show_spelled m.arguments (words_of given) m.count (no_given given m.known)
 
 -- words mean one request at most
 pub one_request : (words : List (List ℕ)) (one other : Request) → Means words one → Means words other → one ≡ other

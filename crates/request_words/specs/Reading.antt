@@ -10,7 +10,7 @@ use Rattle.request_words.specs.declared.request.AppName.{AppName}
 use Rattle.request_words.specs.declared.request.AppName.TheVariants.{Enum, Snaptr, Unaptr}
 use Rattle.request_words.specs.declared.request.Origin.TheVariants.{Files}
 use Rattle.request_words.specs.declared.request.Request.{Request}
-use Rattle.request_words.specs.declared.request.Request.TheVariants.{Resolve}
+use Rattle.request_words.specs.declared.request.Request.TheVariants.{Resolve, Show}
 
 -- the places of the values of one option among words that are options with their values
 abbrev pub places_in : List ℕ → ℕ → List (List ℕ) → List ℕ
@@ -56,9 +56,9 @@ with_value places word option place = if bytes_eq word option then with_place pl
 abbrev pub first_of : Places → Option ℕ
 first_of places = if places.count == 0 then None else Some (get_or places.at 0 0)
 
--- `resolve` with its options
-unfoldable pub resolve_in : AppName → List (List ℕ) → Option Request
-resolve_in app options =
+-- the options of `resolve`
+unfoldable pub resolve_options_in : AppName → List (List ℕ) → Option Request
+resolve_options_in app options =
     if are_chosen (resolve_choices app) options
     then Some (Resolve app 2 (first_of (places_from (places_in (option_word Want) 4 options))) (first_of (places_from (places_in (option_word Apex) 4 options))) (Files (places_from (places_in (option_word Zones) 4 options))))
     else None
@@ -71,10 +71,21 @@ app_in word =
     else if bytes_eq word (app_word Unaptr) then Some Unaptr
     else None
 
+-- the words behind `resolve`
+unfoldable pub resolve_in : List (List ℕ) → Option Request
+resolve_in [] = None
+resolve_in (application ∷ []) = None
+resolve_in (application ∷ string ∷ options) = option_and_then (λ app. resolve_options_in app options) (app_in application)
+
+-- the words behind `show`
+unfoldable pub show_in : List (List ℕ) → Option Request
+show_in [] = Some Show
+show_in (word ∷ rest) = None
+
 -- the request of words
 unfoldable pub request_in : List (List ℕ) → Option Request
 request_in [] = None
-request_in (command ∷ []) = None
-request_in (command ∷ application ∷ []) = None
-request_in (command ∷ application ∷ string ∷ options) =
-    if bytes_eq command (codes "resolve") then option_and_then (λ app. resolve_in app options) (app_in application) else None
+request_in (command ∷ rest) =
+    if bytes_eq command (codes "resolve") then resolve_in rest
+    else if bytes_eq command (codes "show") then show_in rest
+    else None

@@ -44,3 +44,7 @@ resolve_choices Unaptr = want_choice ∷ files_choice ∷ []
 -- `resolve APP STRING`
 abbrev pub resolve_row : AppName → Row
 resolve_row app = record { heads = codes "resolve" ∷ app_word app ∷ []; arguments = 1; choices = resolve_choices app }
+
+-- `show`
+abbrev pub show_row : Row
+show_row = record { heads = codes "show" ∷ []; arguments = 0; choices = [] }

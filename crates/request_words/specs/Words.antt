@@ -4,14 +4,14 @@ use Rattle.std.specs.List.{AllByRecursion}
 use Rattle.std.specs.Option.{option_to_list}
 use Rattle.std.specs.declared.alloc.Global.{Global}
 use Rattle.enum_base.specs.Padding.{padded}
-use Rattle.request_words.specs.Rows.{Row, option_word, resolve_row}
+use Rattle.request_words.specs.Rows.{Row, option_word, resolve_row, show_row}
 use Rattle.request_words.specs.declared.option.Choice.{Choice}
 use Rattle.request_words.specs.declared.option.OptionName.TheVariants.{Want, Apex, Zones}
 use Rattle.request_words.specs.declared.places.Places.{Places}
 use Rattle.request_words.specs.declared.request.AppName.{AppName}
 use Rattle.request_words.specs.declared.request.Origin.TheVariants.{Files}
 use Rattle.request_words.specs.declared.request.Request.{Request}
-use Rattle.request_words.specs.declared.request.Request.TheVariants.{Resolve}
+use Rattle.request_words.specs.declared.request.Request.TheVariants.{Resolve, Show}
 
 -- the words as bytes
 abbrev pub texts_of : List (String Global) → List (List ℕ)
@@ -72,6 +72,7 @@ pub record MeansResolve (app : AppName) (words : List (List ℕ)) (string : ℕ)
 -- the words mean this request
 abbrev pub Means : List (List ℕ) → Request → Type 0
 Means words (Resolve app string want apex (Files zones)) = MeansResolve app words string want apex zones
+Means words Show = (given : List Given) × IsSpelled show_row words given
 
 -- the words are a request
 abbrev pub IsRequest : List (List ℕ) → Type 0

@@ -30,4 +30,6 @@ pub enum Request {
         apex: Option<usize>,
         origin: Origin,
     },
+    /// The message in hexadecimal that the input is.
+    Show,
 }

@@ -2,7 +2,7 @@
 ghost use Rattle.std.specs.Prelude.{◌≡◌, ℕ, List, IfOk, Ok, string_bytes, bytes_eq};
 ghost use Rattle.std.specs.List.{list_all};
 ghost use Rattle.std.specs.Result.{result_ok};
-ghost use Rattle.request_words.specs.Reading.{app_in, are_chosen, are_options, is_often, is_option, request_in, resolve_in};
+ghost use Rattle.request_words.specs.Reading.{app_in, are_chosen, are_options, is_often, is_option, request_in, resolve_in, resolve_options_in, show_in};
 ghost use Rattle.request_words.specs.Words.{Means, texts_of, text_at};
 ghost use Rattle.request_words.specs.declared.request.Request.{Request};
 
@@ -14,8 +14,8 @@ use crate::request::{AppName, Origin, Request};
 #[derive(Clone, Copy, Debug, PartialEq, Eq)]
 pub struct Usage;
 
-/// Reads `resolve APP STRING` and after it options in any order, as the table of commands says. The word after an option
-/// is its value, whatever it is. Takes no memory.
+/// Reads `show` alone, or `resolve APP STRING` and after it options in any order, as the table of commands says. The word
+/// after an option is its value, whatever it is. Takes no memory.
 pub fn read_words(words: &[String]) -> Result<Request, Usage>
     ensures meant { IfOk result (λ request. Means (texts_of words.now) request) }
     ensures only { (request : Request) → Means (texts_of words.now) request → result ≡ Ok request }
@@ -28,14 +28,28 @@ pub fn read_words(words: &[String]) -> Result<Request, Usage>
 fn read_request(words: &[String]) -> Result<Request, Usage>
     ensures { result_ok result ≡ request_in (texts_of words.now) }
 {
-    let [command, application, _, options @ ..] = words else {
+    let [command, rest @ ..] = words else {
         return Err(Usage);
     };
-    if !is_word(command, b"resolve") {
-        return Err(Usage);
+    if is_word(command, b"resolve") {
+        return read_resolve(rest);
     }
+    if is_word(command, b"show") {
+        return read_show(rest);
+    }
+    Err(Usage)
+}
+
+// The words behind `resolve`.
+#[tactic(auto, unfolding(crate::specs::Reading::resolve_in))]
+fn read_resolve(words: &[String]) -> Result<Request, Usage>
+    ensures { result_ok result ≡ resolve_in (texts_of words.now) }
+{
+    let [application, _, options @ ..] = words else {
+        return Err(Usage);
+    };
     let app = read_app(application)?;
-    read_resolve(app, options)
+    read_resolve_options(app, options)
 }
 
 fn read_app(word: &String) -> Result<AppName, Usage>
@@ -53,10 +67,10 @@ fn read_app(word: &String) -> Result<AppName, Usage>
     Err(Usage)
 }
 
-// `resolve` with the words of its options.
-#[tactic(auto, unfolding(crate::specs::Reading::resolve_in))]
-fn read_resolve(app: AppName, options: &[String]) -> Result<Request, Usage>
-    ensures { result_ok result ≡ resolve_in app (texts_of options.now) }
+// The words of the options of `resolve`.
+#[tactic(auto, unfolding(crate::specs::Reading::resolve_options_in))]
+fn read_resolve_options(app: AppName, options: &[String]) -> Result<Request, Usage>
+    ensures { result_ok result ≡ resolve_options_in app (texts_of options.now) }
 {
     if !are_chosen(options, resolve_choices(app)) {
         return Err(Usage);
@@ -68,6 +82,17 @@ fn read_resolve(app: AppName, options: &[String]) -> Result<Request, Usage>
         apex: first_of(&places_of(options, OptionName::Apex, 4)),
         origin: Origin::Files(places_of(options, OptionName::Zones, 4)),
     })
+}
+
+// The words behind `show`: none.
+#[tactic(auto, unfolding(crate::specs::Reading::show_in))]
+fn read_show(words: &[String]) -> Result<Request, Usage>
+    ensures { result_ok result ≡ show_in (texts_of words.now) }
+{
+    match words {
+        [] => Ok(Request::Show),
+        _ => Err(Usage),
+    }
 }
 
 // Whether the words are options of these with their values, each as often as it may stand.

@@ -1,5 +1,5 @@
 //! The objects that a run is given.
-use enum_base::{MemShelf, MemSink, MemoryFault, Ranks};
+use enum_base::{Bytes, MemShelf, MemSink, MemSource, MemoryFault, Ranks};
 use enum_top::run;
 use std::alloc::Global;
 
@@ -11,24 +11,31 @@ pub struct Ended {
     pub err: MemSink,
 }
 
-/// Files by their names, and which calls are to fail.
+/// Files by their names, the input, and which calls are to fail.
 #[derive(Drop)]
 pub struct Scene {
     alloc: Global,
     files: Vec<(String, String)>,
+    input: String,
+    // whether texts are added to the input, and not to the last file
+    into_input: bool,
     shelf: Vec<u32>,
+    source: Vec<u32>,
     out: Vec<u32>,
     err: Vec<u32>,
     most: usize,
 }
 
 impl Scene {
-    /// No files, and calls that do not fail.
+    /// No files, no input, and calls that do not fail.
     pub fn new(alloc: Global) -> Scene {
         Scene {
             alloc,
             files: Vec::new(alloc),
+            input: String::new(alloc),
+            into_input: false,
             shelf: Vec::new(alloc),
+            source: Vec::new(alloc),
             out: Vec::new(alloc),
             err: Vec::new(alloc),
             most: 4096,
@@ -41,6 +48,12 @@ impl Scene {
             "file" => {
                 let name = rest.to_string(self.alloc)?;
                 self.files.push((name, String::new(self.alloc)))?;
+                self.into_input = false;
+                Ok(())
+            }
+            "input" => {
+                self.input = String::new(self.alloc);
+                self.into_input = true;
                 Ok(())
             }
             ":" => {
@@ -48,6 +61,7 @@ impl Scene {
                 self.add("\n")
             }
             "-" => self.add(rest),
+            "byte" => self.add_byte(rest),
             "fill" => self.fill(rest),
             "lines" => self.add_lines(rest),
             "fail" => self.fail(rest),
@@ -59,12 +73,20 @@ impl Scene {
         }
     }
 
-    // Adds a text to the last file.
+    // Adds a text to the input or to the last file.
     fn add(&mut self, text: &str) -> Result<(), MemoryFault> {
-        if let Some(file) = self.files.last_mut() {
+        if self.into_input {
+            self.input.push_str(text)?;
+        } else if let Some(file) = self.files.last_mut() {
             file.1.push_str(text)?;
         }
         Ok(())
+    }
+
+    // The byte of a number.
+    fn add_byte(&mut self, number: &str) -> Result<(), MemoryFault> {
+        let byte = (number_in(number) % 128) as u8;
+        self.add(char::from(byte).encode_utf8(&mut [0; 4]))
     }
 
     // A text so many times.
@@ -127,6 +149,7 @@ impl Scene {
     fn fail(&mut self, rest: &str) -> Result<(), MemoryFault> {
         match rest.split_once(' ') {
             Some(("shelf", call)) => self.shelf.push(number_in(call))?,
+            Some(("input", call)) => self.source.push(number_in(call))?,
             Some(("out", call)) => self.out.push(number_in(call))?,
             Some(("err", call)) => self.err.push(number_in(call))?,
             _ => return Err(MemoryFault),
@@ -146,9 +169,20 @@ impl Scene {
         for file in &self.files {
             shelf.put(file.0.as_str(), file.1.as_bytes())?;
         }
+        let mut bytes = Bytes::new(self.alloc);
+        bytes.push_slice(self.input.as_bytes())?;
+        let mut input = MemSource::new(self.alloc, bytes, self.calls(&self.source)?);
         let mut out = MemSink::new(self.alloc, self.most.max(1), self.calls(&self.out)?);
         let mut err = MemSink::new(self.alloc, 4096, self.calls(&self.err)?);
-        let code = run(self.alloc, list.as_slice(), &mut shelf, &mut out, &mut err).code();
+        let code = run(
+            self.alloc,
+            list.as_slice(),
+            &mut shelf,
+            &mut input,
+            &mut out,
+            &mut err,
+        )
+        .code();
         Ok(Ended { code, out, err })
     }
 

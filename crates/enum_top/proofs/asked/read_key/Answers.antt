@@ -1,6 +1,6 @@
 use Rattle.std.proofs.Common.{◌∙◌, ap, refl, sym}
 use Rattle.enum_top.specs.Applications.{as_apex}
-use Rattle.enum_top.specs.Verdicts.Then.{goes, stops}
+use Rattle.enum_base.specs.Stages.Then.{goes, stops}
 use Rattle.enum_top.proofs.asked.read_key.Goals as goal
 
 pub returns-in-Ok : goal.returns-in-Ok

@@ -1,4 +1,5 @@
 use Rattle.enum_top.proofs.OneAnswer.{one_text}
+use Rattle.enum_top.proofs.OneMessage.{AreMessageLaws}
 use Rattle.enum_top.proofs.OneZones.{AreLaws}
 use Rattle.enum_top.proofs.RequestLaws.{one_answer}
 use Rattle.enum_top.proofs.laws.one_verdict.Goals as goal
@@ -15,4 +16,9 @@ returns c =
       one_reason = c.one_add_fault.ensures.one;
       no_reason = c.one_add_fault.ensures.none;
     } in
-    one_answer laws (one_text c.one_report.ensures c.one_loop.ensures)
+    let messages : AreMessageLaws = record {
+      one_message = c.message_is_one.ensures.one_message;
+      one_break = c.message_is_one.ensures.one_break;
+      not_both = c.message_is_one.ensures.not_both;
+    } in
+    one_answer laws (one_text c.one_report.ensures c.one_loop.ensures) messages

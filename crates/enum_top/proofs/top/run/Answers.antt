@@ -15,13 +15,13 @@ returns-clause-ill_formed g c = ends_ill_formed _ _ _ _ _ _ _ c.perform.ensures.
 
 pub returns-clause-answered : goal.returns-clause-answered
 returns-clause-answered g c =
-    λ request means calm_shelf calm_output.
-    ends_answered _ _ _ _ _ _ _ c.perform.ensures.ends request means (λ e. calm_shelf (c.perform.ensures.shelf.blamed.only e)) (λ e. calm_output (c.perform.ensures.output.only e))
+    λ request means calm_shelf calm_input calm_output.
+    ends_answered _ _ _ _ _ _ _ c.perform.ensures.ends request means (λ e. calm_shelf (c.perform.ensures.shelf.blamed.only e)) (λ e. calm_input (c.perform.ensures.input.only e)) (λ e. calm_output (c.perform.ensures.output.only e))
 
 pub returns-clause-always : goal.returns-clause-always
 returns-clause-always g c =
-    λ request verdict means seen h calm_shelf calm_output.
-    ends_always _ _ _ _ _ _ _ c.perform.ensures.ends c.one_verdict.ensures request verdict means seen h (λ e. calm_shelf (c.perform.ensures.shelf.blamed.only e)) (λ e. calm_output (c.perform.ensures.output.only e))
+    λ request verdict means seen h calm_shelf calm_input calm_output.
+    ends_always _ _ _ _ _ _ _ c.perform.ensures.ends c.one_verdict.ensures request verdict means seen h (λ e. calm_shelf (c.perform.ensures.shelf.blamed.only e)) (λ e. calm_input (c.perform.ensures.input.only e)) (λ e. calm_output (c.perform.ensures.output.only e))
 
 pub returns-clause-kept : goal.returns-clause-kept
 returns-clause-kept g c = ends_kept _ _ _ _ _ _ _ c.perform.ensures.ends

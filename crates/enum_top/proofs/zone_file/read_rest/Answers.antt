@@ -1,7 +1,7 @@
-use Rattle.std.proofs.Common.{rules, ◌+◌, ◌<◌, length, arith}
+use Rattle.std.proofs.Common.{rules, ◌+◌, length, arith}
 use Rattle.std.proofs.lemmas.Grind.{common_steps}
 use Rattle.enum_base.specs.Outside.{EndsAtEnd}
-use Rattle.enum_top.specs.Verdicts.Then.{goes}
+use Rattle.enum_base.specs.Stages.Then.{goes}
 use Rattle.enum_top.proofs.DoesLemmas.{done_as}
 use Rattle.enum_top.proofs.FileLemmas.{broken_left, end_left, fed_more, taken_more, text_refused}
 use Rattle.enum_top.proofs.zone_file.read_rest.Goals as goal

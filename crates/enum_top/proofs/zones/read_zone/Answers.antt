@@ -1,5 +1,5 @@
 use Rattle.std.proofs.Common.{refl}
-use Rattle.enum_top.specs.Verdicts.Then.{goes, stops}
+use Rattle.enum_base.specs.Stages.Then.{goes, stops}
 use Rattle.enum_top.proofs.DoesLemmas.{done_as, got, passed, stopped_by}
 use Rattle.enum_top.proofs.FileLemmas.{plain_at}
 use Rattle.enum_top.proofs.zones.read_zone.Goals as goal

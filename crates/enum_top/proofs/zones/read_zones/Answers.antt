@@ -1,5 +1,5 @@
 use Rattle.std.proofs.Common.{◌∙◌, refl}
-use Rattle.enum_top.specs.Verdicts.Then.{goes, stops}
+use Rattle.enum_base.specs.Stages.Then.{goes, stops}
 use Rattle.enum_top.proofs.DoesLemmas.{done, got, passed, stopped_by, unblamed}
 use Rattle.enum_top.proofs.FileLoops.{all_read, one_read, stopped_next, same_shelf}
 use Rattle.enum_top.proofs.zones.read_zones.Goals as goal

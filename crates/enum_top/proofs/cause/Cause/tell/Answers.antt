@@ -26,3 +26,12 @@ returns-in-Zone g c = rw (c.in-Zone.is, ← c.words-in-Zone.ensures, ← c.text_
 
 pub returns-in-Set : goal.returns-in-Set
 returns-in-Set g c = rw (c.in-Set.is, ← c.words-in-Set.ensures, ← c.text_at-in-Set.ensures) c.tell_file-in-Set.ensures
+
+pub returns-in-InputTooLarge : goal.returns-in-InputTooLarge
+returns-in-InputTooLarge g c = rw c.in-InputTooLarge.is c.write_whole-in-InputTooLarge.ensures.takes
+
+pub returns-in-Hex : goal.returns-in-Hex
+returns-in-Hex g c = rw c.in-Hex.is c.write_whole-in-Hex.ensures.takes
+
+pub returns-in-Message : goal.returns-in-Message
+returns-in-Message g c = rw (c.in-Message.is, ← c.words-in-Message.ensures, ← c.as_slice-in-Message.ensures.value) c.write_three-in-Message.ensures.takes

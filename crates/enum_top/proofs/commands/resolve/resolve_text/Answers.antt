@@ -1,5 +1,5 @@
 use Rattle.std.proofs.Common.{Ok, Err, ap, refl}
-use Rattle.enum_top.specs.Verdicts.Then.{goes, stops}
+use Rattle.enum_base.specs.Stages.Then.{goes, stops}
 use Rattle.enum_top.specs.declared.refusal.Refusal.TheVariants.{IllFormed}
 use Rattle.enum_top.proofs.AskedLemmas.{no_cause, one_cause}
 use Rattle.enum_top.proofs.DoesLemmas.{done, got, ill_formed, passed, stopped_by}

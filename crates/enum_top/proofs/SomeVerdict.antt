@@ -1,0 +1,76 @@
+-- A request comes to a verdict.
+use Rattle.std.proofs.Common.{◌⊎◌, inl, inr, ℕ, List, [], ◌∷◌, take, Option, option_map, Ok, Err, refl}
+use Rattle.ddds_walk.specs.Report as walk
+use Rattle.ddds_walk.specs.Rules.{Client}
+use Rattle.ddds_walk.specs.declared.report.Report.{Report}
+use Rattle.dns_wire.specs.Laws.{MessageOrBreak}
+use Rattle.dns_name.specs.Name.{folded_labels}
+use Rattle.enum_app.specs.Number.{IsNumber, HasNumberFault, digits_of, key_labels, plus}
+use Rattle.enum_app.specs.declared.number.NumberFault.{NumberFault}
+use Rattle.enum_base.proofs.StageLaws.{IsTotal, IsTotal-is, IsTotal-then}
+use Rattle.enum_base.specs.Outside.{File}
+use Rattle.naptr_data.specs.Laws.{RulesAreApart}
+use Rattle.naptr_data.specs.Zones as plain
+use Rattle.request_words.specs.Words.{text_at}
+use Rattle.request_words.specs.declared.request.AppName.{AppName}
+use Rattle.request_words.specs.declared.request.AppName.TheVariants.{Enum, Snaptr, Unaptr}
+use Rattle.request_words.specs.declared.request.Origin.TheVariants as origin
+use Rattle.request_words.specs.declared.request.Request.{Request}
+use Rattle.request_words.specs.declared.request.Request.TheVariants.{Resolve, Show}
+use Rattle.snaptr_app.specs.Domain.{domain_fault, key_of}
+use Rattle.std.specs.List.{AllByRecursion}
+use Rattle.zone_db.specs.Laws.{ToldRulesAreApart}
+use Rattle.zone_db.specs.Plain.{told}
+use Rattle.zone_db.specs.Zone.{IsValid, Zone}
+use Rattle.enum_top.specs.Answers.{Answers}
+use Rattle.enum_top.specs.Applications.{Asked, Asks, Keys, Strings, apex_of, as_apex, domain_key, domain_string, faultless, fitting, want_fault}
+use Rattle.enum_top.specs.Resolving.{Reports, Resolves, client_for, printed_as}
+use Rattle.enum_top.specs.Verdicts.{Told, Verdict, whole}
+use Rattle.enum_top.specs.declared.cause.Cause.TheVariants as cause
+use Rattle.enum_top.proofs.SomeMessage.{IsTotal-shows}
+use Rattle.enum_top.proofs.SomeNumber.{number_or_fault}
+use Rattle.enum_top.proofs.SomeZones.{AreTotal, IsTotal-zones, valid_zones}
+
+IsTotal-strings : (app : AppName) (text : List ℕ) → IsTotal (Strings app text)
+IsTotal-strings Enum text = by (number_or_fault text)
+  where
+    by : IsNumber text ⊎ ((fault : NumberFault) × HasNumberFault text fault) → IsTotal (Strings Enum text)
+    by (inl number) = record { result = Ok (plus ∷ digits_of text); comes = inl (number, refl) }
+    by (inr (fault, has)) = record { result = Err (cause.Number fault); comes = inr (fault, has, refl) }
+IsTotal-strings Snaptr text = IsTotal-is (domain_string text (domain_fault text))
+IsTotal-strings Unaptr text = IsTotal-is (domain_string text (domain_fault text))
+
+IsTotal-keys : (app : AppName) (text : List ℕ) (apex : Option (List ℕ)) → IsTotal (Keys app text apex)
+IsTotal-keys Enum text apex =
+    IsTotal-then _ _ (IsTotal-is (as_apex (apex_of apex))) (λ top is. IsTotal-is (fitting (key_labels (digits_of text) top)))
+IsTotal-keys Snaptr text apex = IsTotal-is (domain_key (key_of text))
+IsTotal-keys Unaptr text apex = IsTotal-is (domain_key (key_of text))
+
+IsTotal-asks : (words : List (List ℕ)) (app : AppName) (string : ℕ) (want apex : Option ℕ) → IsTotal (Asks words app string want apex)
+IsTotal-asks words app string want apex =
+    IsTotal-then _ _ (IsTotal-strings app (text_at words string)) (λ original read.
+    IsTotal-then _ _ (IsTotal-is (faultless (option_map (text_at words) want) (want_fault app (option_map (text_at words) want)))) (λ wanted is.
+    IsTotal-then _ _ (IsTotal-keys app (text_at words string) (option_map (text_at words) apex)) (λ domain has.
+    IsTotal-is (Ok (record { string = original; want = wanted; key = domain })))))
+
+-- the law that there is an answer over zones whose rules are apart
+abbrev pub HasReport : Type 0
+HasReport = (c : Client) (zones : List plain.Zone) (key : plain.Labels) → RulesAreApart zones → (report : Report) × walk.Answers c zones key report
+
+IsTotal-reports : HasReport → ToldRulesAreApart → (app : AppName) (asked : Asked) (zones : List Zone) → AllByRecursion IsValid zones → IsTotal (Reports app asked zones)
+IsTotal-reports some apart app asked zones valid =
+    let r = some (client_for app asked) (told zones) (folded_labels asked.key) (apart zones valid) in
+    record { result = Ok (printed_as r.0); comes = (r.0, r.1, refl) }
+
+IsTotal-resolves : AreTotal → HasReport → ToldRulesAreApart → (files : Option (List File)) (words : List (List ℕ)) (app : AppName) (string : ℕ) (want apex : Option ℕ) (places : List ℕ) → IsTotal (Resolves files words app string want apex places)
+IsTotal-resolves laws some apart files words app string want apex places =
+    IsTotal-then _ _ (IsTotal-asks words app string want apex) (λ asked read.
+    IsTotal-then _ _ (IsTotal-zones laws files words [] places) (λ zones come.
+    IsTotal-reports some apart app asked zones (valid_zones files words [] zones places tt come)))
+
+pub some_verdict : AreTotal → HasReport → ToldRulesAreApart → MessageOrBreak → (objects : Told) (words : List (List ℕ)) (request : Request) → (verdict : Verdict) × Answers objects words request verdict
+some_verdict laws some apart law objects words (Resolve app string want apex (origin.Files zones)) =
+    let t = IsTotal-resolves laws some apart objects.files words app string want apex (take zones.count zones.at) in
+    (whole t.result, record { result = t.result; comes = t.comes; is = refl })
+some_verdict laws some apart law objects words Show =
+    let t = IsTotal-shows law objects.input in (whole t.result, record { result = t.result; comes = t.comes; is = refl })
