@@ -1,27 +1,13 @@
 //! The content of RDATA in a message.
 ghost use Rattle.std.specs.Prelude.{◌<◌, ◌≤◌, length, IfOk};
-ghost use Rattle.naptr_data.specs.Fields.{NameIn, EndsIn};
+ghost use Rattle.naptr_data.specs.Fields.{NameIn};
 ghost use Rattle.dns_wire.specs.Contents.{AddressIn, SoaIn, LastIn, ContentIn};
 ghost use Rattle.dns_wire.specs.declared.form.Form.TheVariants as form;
 
 use crate::content::{Content, Soa};
 use crate::rdata_field::{address_in, long_in};
 use dns_name::Name;
-use naptr_data::{InFault, name_in, number_in};
-
-/// The value whose last field ends at that place.
-///
-/// # Errors
-/// `Shape` at that place where the RDATA does not end there.
-pub fn ending<T: Drop>(value: T, at: usize, to: usize) -> Result<T, InFault>
-    requires { at ≤ to }
-    ensures { EndsIn to value at result }
-{
-    if at < to {
-        return Err(InFault::Shape { at });
-    }
-    Ok(value)
-}
+use naptr_data::{InFault, ends_in, name_in, number_in};
 
 /// The address of that many bytes that the RDATA is (RFC 1035, 3.4.1; RFC 3596, 2.2).
 pub fn address<const N: usize>(message: &[u8], from: usize, to: usize) -> Result<[u8; N], InFault>
@@ -30,7 +16,7 @@ pub fn address<const N: usize>(message: &[u8], from: usize, to: usize) -> Result
     ensures { LastIn (AddressIn N message.now to) to from result }
 {
     let (bytes, end) = address_in(message, from, to)?;
-    ending(bytes, end, to)
+    ends_in(bytes, end, to)
 }
 
 /// The name that the RDATA ends with.
@@ -40,7 +26,7 @@ pub fn last_name(message: &[u8], from: usize, to: usize) -> Result<Name, InFault
     ensures { LastIn (NameIn message.now to) to from result }
 {
     let (name, end) = name_in(message, from, to)?;
-    ending(name, end, to)
+    ends_in(name, end, to)
 }
 
 /// The data of an SOA record that the RDATA is (RFC 1035, 3.3.13).
@@ -50,7 +36,7 @@ pub fn start(message: &[u8], from: usize, to: usize) -> Result<Soa, InFault>
     ensures { LastIn (SoaIn message.now to) to from result }
 {
     let (soa, end) = soa_in(message, from, to)?;
-    ending(soa, end, to)
+    ends_in(soa, end, to)
 }
 
 // The fields of an SOA record.

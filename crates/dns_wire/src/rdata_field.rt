@@ -6,6 +6,7 @@ ghost use Rattle.dns_wire.specs.DecodeFaults.{of_rdata};
 
 use crate::content::Texts;
 use crate::decode_fault::DecodeFault;
+use byteorder::{BigEndian, ByteOrder};
 use naptr_data::{InFault, text_in};
 use std::alloc::Global;
 
@@ -22,13 +23,8 @@ pub fn long_in(message: &[u8], at: usize, to: usize) -> Result<(u32, usize), InF
     if to - at < 4 {
         return Err(InFault::Shape { at });
     }
-    let bytes = [
-        message[at],
-        message[at + 1],
-        message[at + 2],
-        message[at + 3],
-    ];
-    Ok((u32::from_be_bytes(bytes), at + 4))
+    let number = BigEndian::read_u32(&message[at..]);
+    Ok((number, at + 4))
 }
 
 /// The address of that many bytes at that place, and the place behind it.

@@ -28,7 +28,7 @@ pub use list::{List, Ranks};
 pub use mem_shelf::MemShelf;
 pub use mem_sink::MemSink;
 pub use mem_source::MemSource;
-pub use number::{NumFault, read_u16, read_u32};
+pub use number::{NumFault, push_number, read_u16, read_u32};
 pub use outside::{Shelf, Sink, Source};
 pub use steps::Steps;
 pub use text::Text255;

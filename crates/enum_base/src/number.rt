@@ -1,6 +1,9 @@
 //! Numbers in decimal digits.
-ghost use Rattle.std.specs.Prelude.{◌≡◌, ◌≤◌, ◌+◌, ◌^◌, min, IfOk};
+ghost use Rattle.std.specs.Prelude.{◌≡◌, ◌≤◌, ◌+◌, ◌++◌, ◌^◌, min, IfOk, OnOk, decimal};
 ghost use Rattle.enum_base.specs.Decimal.{decimal_value, first_non_digit, number_up_to};
+
+use crate::{Bytes, MemoryFault};
+use itoa::Buffer;
 
 // More than any number that is asked for.
 const CAP: u64 = 1 << 32;
@@ -66,4 +69,13 @@ fn capped_value(digits: &[u8]) -> u64
         value = next.min(CAP);
     }
     value
+}
+
+/// Appends the front and the number.
+pub fn push_number(front: &[u8], number: usize, out: &mut Bytes) -> Result<(), MemoryFault>
+    ensures { OnOk result (out.new ≡ out.old ++ (front.now ++ decimal number)) }
+{
+    let mut digits = Buffer::new();
+    out.push_slice(front)?;
+    out.push_slice(digits.format(number).as_bytes())
 }

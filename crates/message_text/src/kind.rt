@@ -2,8 +2,7 @@
 ghost use Rattle.std.specs.Prelude.{◌≡◌, ◌++◌, OnOk};
 ghost use Rattle.message_text.specs.Shown.{kind_text};
 
-use crate::message::push_number;
-use enum_base::{Bytes, MemoryFault};
+use enum_base::{Bytes, MemoryFault, push_number};
 
 /// Appends the name of a type, or its number behind `TYPE` (RFC 3597, section 5).
 pub fn push_kind(kind: u16, out: &mut Bytes) -> Result<(), MemoryFault>

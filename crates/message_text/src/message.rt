@@ -1,5 +1,5 @@
 //! How a message is shown.
-ghost use Rattle.std.specs.Prelude.{◌≡◌, ◌++◌, OnOk, IfOk, decimal};
+ghost use Rattle.std.specs.Prelude.{◌≡◌, ◌++◌, OnOk, IfOk};
 ghost use Rattle.std.specs.List.{flat_map};
 ghost use Rattle.std.specs.Int.{w16, to_be_bytes};
 ghost use Rattle.hex.specs.Hex.{encode_lower};
@@ -7,8 +7,7 @@ ghost use Rattle.message_text.specs.Shown.{bytes_text, content_text, header_line
 
 use crate::kind::push_kind;
 use dns_wire::{Content, Message, Question, Record};
-use enum_base::{Bytes, MemoryFault};
-use itoa::Buffer;
+use enum_base::{Bytes, MemoryFault, push_number};
 use std::alloc::Global;
 use zone_text::write_fields;
 
@@ -132,13 +131,4 @@ fn push_digits(alloc: Global, bytes: &[u8], out: &mut Bytes) -> Result<(), Memor
 {
     let digits = hex::encode(alloc, bytes)?;
     out.push_slice(digits.as_bytes())
-}
-
-// A number behind some bytes.
-pub(crate) fn push_number(front: &[u8], number: usize, out: &mut Bytes) -> Result<(), MemoryFault>
-    ensures { OnOk result (out.new ≡ out.old ++ (front.now ++ decimal number)) }
-{
-    let mut digits = Buffer::new();
-    out.push_slice(front)?;
-    out.push_slice(digits.format(number).as_bytes())
 }

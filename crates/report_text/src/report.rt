@@ -4,8 +4,7 @@ ghost use Rattle.report_text.specs.Printing.{path_text, word_of, rule_text, give
 
 use ddds_walk::{End, LoopPath, Outcome, Report};
 use dns_name::Name;
-use enum_base::{Bytes, MemoryFault};
-use itoa::Buffer;
+use enum_base::{Bytes, MemoryFault, push_number};
 use naptr_data::Naptr;
 use std::alloc::Global;
 
@@ -170,12 +169,4 @@ fn push_last(count: usize, out: &mut Bytes) -> Result<(), MemoryFault>
 {
     push_number(b"end ", count, out)?;
     out.push_slice(b"\n")
-}
-
-fn push_number(front: &[u8], number: usize, out: &mut Bytes) -> Result<(), MemoryFault>
-    ensures { OnOk result (out.new ≡ out.old ++ (front.now ++ decimal number)) }
-{
-    let mut buffer = Buffer::new();
-    out.push_slice(front)?;
-    out.push_slice(buffer.format(number).as_bytes())
 }

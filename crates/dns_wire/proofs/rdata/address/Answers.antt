@@ -8,4 +8,4 @@ returns-in_err-bytes g c =
 
 pub returns : goal.returns
 returns g c =
-    goes (c.in_ok-bytes.bytes, c.in_ok-bytes.end) c.in_ok-bytes.ensures.address (c.ending.ensures)
+    goes (c.in_ok-bytes.bytes, c.in_ok-bytes.end) c.in_ok-bytes.ensures.address (c.ends_in.ensures)

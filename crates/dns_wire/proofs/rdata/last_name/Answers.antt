@@ -8,4 +8,4 @@ returns-in_err-name c =
 
 pub returns : goal.returns
 returns c =
-    goes (c.in_ok-name.name, c.in_ok-name.end) c.in_ok-name.ensures.name (c.ending.ensures)
+    goes (c.in_ok-name.name, c.in_ok-name.end) c.in_ok-name.ensures.name (c.ends_in.ensures)

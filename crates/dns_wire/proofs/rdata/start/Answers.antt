@@ -8,4 +8,4 @@ returns-in_err-soa c =
 
 pub returns : goal.returns
 returns c =
-    goes (c.in_ok-soa.soa, c.in_ok-soa.end) c.in_ok-soa.ensures.soa (c.ending.ensures)
+    goes (c.in_ok-soa.soa, c.in_ok-soa.end) c.in_ok-soa.ensures.soa (c.ends_in.ensures)
