@@ -5,6 +5,7 @@ pub mod NameLemmas
 pub mod ReadLemmas
 pub mod RunLemmas
 pub mod SpellLemmas
+pub mod TargetLemmas
 pub mod TextLawLemmas
 pub mod TextLemmas
 pub mod WireLemmas

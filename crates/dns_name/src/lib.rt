@@ -10,6 +10,7 @@ mod name;
 mod names;
 mod order;
 mod piece;
+mod targets;
 mod text;
 mod wire;
 mod wire_fault;
@@ -22,5 +23,6 @@ pub use laws::{
 };
 pub use name::Name;
 pub use names::Names;
+pub use targets::{Targets, targets_of};
 pub use wire_fault::{WireFault, WithinFault};
 pub use written::NameText;

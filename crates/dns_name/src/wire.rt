@@ -1,14 +1,17 @@
 //! Names in messages.
 ghost use Rattle.std.specs.Prelude.{◌≡◌, ◌↔◌, ◌<◌, ◌≤◌, List, ℕ, length, IfOk, MatchOption};
 ghost use Rattle.dns_name.specs.Fields.{IsAnswer, IsWithin, cut_place};
+ghost use Rattle.dns_name.specs.Targets.{AreTargets};
 ghost use Rattle.dns_name.specs.Wire.{RunIsCut};
 
 use crate::field::{Field, field_at};
 use crate::name::Name;
+use crate::targets::target_of;
 use crate::wire_fault::{WireFault, WithinFault};
 use enum_base::Buffer;
 
 impl Name {
+    ghost use Rattle.dns_name.specs.Targets.{AreTargets};
     ghost use Rattle.dns_name.specs.Wire.{NameAt, NameBreaks, NameWithin, WithinBreaks};
 
     /// The name at that place of a message, and the place behind it: behind its first pointer, or where it has none behind its
@@ -22,7 +25,25 @@ impl Name {
         ensures fault { (fault : WireFault) → (result ≡ Err fault) ↔ NameBreaks message.now at fault }
         ensures within { IfOk result (λ read. (at < read.1) × (read.1 ≤ length message.now)) }
     {
-        read(message, at)
+        read(message, &[], at)
+    }
+
+    /// The same as `read_at`, where the targets of the message (`targets_of`) are at hand: no chain of pointers is followed twice.
+    ///
+    /// # Errors
+    /// As `read_at`.
+    pub fn read_at_by(
+        message: &[u8],
+        targets: &[u16],
+        at: usize,
+    ) -> Result<(Name, usize), WireFault>
+        requires place { at ≤ length message.now }
+        requires targets { AreTargets message.now targets.now }
+        ensures name { (labels : List (List ℕ)) (next : ℕ) → (result ≡ Ok (labels, next)) ↔ NameAt message.now at labels next }
+        ensures fault { (fault : WireFault) → (result ≡ Err fault) ↔ NameBreaks message.now at fault }
+        ensures within { IfOk result (λ read. (at < read.1) × (read.1 ≤ length message.now)) }
+    {
+        read(message, targets, at)
     }
 
     /// The name at that place, whose first label run lies before `to`. Runs that pointers lead to may lie behind it.
@@ -36,20 +57,47 @@ impl Name {
         ensures fault { (fault : WithinFault) → (result ≡ Err fault) ↔ WithinBreaks message.now at to fault }
         ensures within { IfOk result (λ read. (at < read.1) × (read.1 ≤ to)) }
     {
-        within(message, at, to)
+        within(message, &[], at, to)
+    }
+
+    /// The same as `read_within`, where the targets of the message (`targets_of`) are at hand: no chain of pointers is followed
+    /// twice.
+    ///
+    /// # Errors
+    /// As `read_within`.
+    pub fn read_within_by(
+        message: &[u8],
+        targets: &[u16],
+        at: usize,
+        to: usize,
+    ) -> Result<(Name, usize), WithinFault>
+        requires begin { at ≤ to }
+        requires end { to ≤ length message.now }
+        requires targets { AreTargets message.now targets.now }
+        ensures name { (labels : List (List ℕ)) (next : ℕ) → (result ≡ Ok (labels, next)) ↔ NameWithin message.now at to labels next }
+        ensures fault { (fault : WithinFault) → (result ≡ Err fault) ↔ WithinBreaks message.now at to fault }
+        ensures within { IfOk result (λ read. (at < read.1) × (read.1 ≤ to)) }
+    {
+        within(message, targets, at, to)
     }
 }
 
 // The same, by one clause.
-fn within(message: &[u8], at: usize, to: usize) -> Result<(Name, usize), WithinFault>
+fn within(
+    message: &[u8],
+    targets: &[u16],
+    at: usize,
+    to: usize,
+) -> Result<(Name, usize), WithinFault>
     requires begin { at ≤ to }
     requires end { to ≤ length message.now }
+    requires targets { AreTargets message.now targets.now }
     ensures { IsWithin message.now at to result }
 {
     if let Some(place) = cut_in_run(&message[..to], at) {
         return Err(WithinFault::Shape { at: place });
     }
-    match read(message, at) {
+    match read(message, targets, at) {
         Ok(read) => Ok(read),
         Err(fault) => Err(WithinFault::Wire(fault)),
     }
@@ -87,8 +135,9 @@ fn cut_place(fault: WireFault) -> Option<usize>
 }
 
 // The name at that place and the place behind it.
-fn read(message: &[u8], at: usize) -> Result<(Name, usize), WireFault>
-    requires { at ≤ length message.now }
+fn read(message: &[u8], targets: &[u16], at: usize) -> Result<(Name, usize), WireFault>
+    requires place { at ≤ length message.now }
+    requires targets { AreTargets message.now targets.now }
     ensures { IsAnswer message.now at result }
 {
     let mut wire = Buffer::<255>::new();
@@ -113,8 +162,8 @@ fn read(message: &[u8], at: usize) -> Result<(Name, usize), WireFault>
                     return Err(WireFault::ForwardPointer { at: here });
                 }
                 next = Some(next.unwrap_or(here + 2));
-                start = offset;
-                here = offset;
+                start = target_of(targets, offset);
+                here = start;
             }
         }
     }

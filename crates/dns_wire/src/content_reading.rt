@@ -1,5 +1,6 @@
 //! The content of RDATA in a message, by its form.
 ghost use Rattle.std.specs.Prelude.{◌≤◌, length};
+ghost use Rattle.dns_name.specs.Targets.{AreTargets};
 ghost use Rattle.dns_wire.specs.Contents.{ContentIn};
 ghost use Rattle.dns_wire.specs.DecodeFaults.{of_rdata};
 ghost use Rattle.dns_wire.specs.Outcome.{Told, OrMemory};
@@ -21,24 +22,26 @@ pub fn content_in(
     alloc: Global,
     form: Form,
     message: &[u8],
+    targets: &[u16],
     from: usize,
     to: usize,
 ) -> Result<Content, DecodeFault>
     requires begin { from ≤ to }
     requires end { to ≤ length message.now }
+    requires targets { AreTargets message.now targets.now }
     ensures { OrMemory (Told of_rdata (ContentIn form message.now from to)) result }
 {
     match form {
         Form::A => Ok(Content::A(address(message, from, to)?)),
-        Form::Ns => Ok(Content::Ns(last_name(message, from, to)?)),
-        Form::Cname => Ok(Content::Cname(last_name(message, from, to)?)),
-        Form::Soa => Ok(Content::Soa(start(message, from, to)?)),
-        Form::Ptr => Ok(Content::Ptr(last_name(message, from, to)?)),
-        Form::Mx => Ok(exchange(message, from, to)?),
+        Form::Ns => Ok(Content::Ns(last_name(message, targets, from, to)?)),
+        Form::Cname => Ok(Content::Cname(last_name(message, targets, from, to)?)),
+        Form::Soa => Ok(Content::Soa(start(message, targets, from, to)?)),
+        Form::Ptr => Ok(Content::Ptr(last_name(message, targets, from, to)?)),
+        Form::Mx => Ok(exchange(message, targets, from, to)?),
         Form::Txt => Ok(Content::Txt(texts_in(alloc, message, from, to)?)),
         Form::Aaaa => Ok(Content::Aaaa(address(message, from, to)?)),
-        Form::Srv => Ok(service(message, from, to)?),
-        Form::Naptr => Ok(Content::Naptr(Naptr::read_in(message, from, to)?)),
+        Form::Srv => Ok(service(message, targets, from, to)?),
+        Form::Naptr => Ok(Content::Naptr(Naptr::read_in_by(message, targets, from, to)?)),
         Form::Opt => Ok(Content::Opt(copy_bytes(alloc, &message[from..to])?)),
         Form::Raw => Ok(Content::Raw(copy_bytes(alloc, &message[from..to])?)),
     }

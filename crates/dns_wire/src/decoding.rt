@@ -1,5 +1,6 @@
 //! Messages from bytes.
 ghost use Rattle.std.specs.Prelude.{◌≡◌, ◌≢◌, ◌⊎◌, ◌≤◌, length, Ok, Err, IfOk};
+ghost use Rattle.dns_name.specs.Targets.{AreTargets};
 ghost use Rattle.dns_wire.specs.Message.{HeaderAt, ItemsAt, QuestionAt, RecordAt, MessageIs, Spells, Breaks};
 ghost use Rattle.dns_wire.specs.Outcome.{OrMemory};
 ghost use Rattle.dns_wire.specs.declared.message.Message.{Message};
@@ -12,6 +13,7 @@ use crate::message::{Counts, Header, Message};
 use crate::question::Questions;
 use crate::reading::{question_at, record_at};
 use crate::record::Records;
+use dns_name::targets_of;
 use std::alloc::Global;
 
 /// The message that the bytes are (RFC 1035, 4.1; RFC 6891).
@@ -32,10 +34,18 @@ fn message_of(alloc: Global, bytes: &[u8]) -> Result<Message, DecodeFault>
     ensures { OrMemory (MessageIs bytes.now) result }
 {
     let (header, counts) = header_of(bytes)?;
-    let (questions, at_answers) = questions_at(alloc, bytes, counts.questions)?;
-    let (answers, at_authority) = records_at(alloc, bytes, counts.answers, at_answers)?;
-    let (authority, at_additional) = records_at(alloc, bytes, counts.authority, at_authority)?;
-    let (additional, end) = records_at(alloc, bytes, counts.additional, at_additional)?;
+    let table = targets_of(alloc, bytes)?;
+    let targets = table.as_slice();
+    let (questions, at_answers) = questions_at(alloc, bytes, targets, counts.questions)?;
+    let (answers, at_authority) = records_at(alloc, bytes, targets, counts.answers, at_answers)?;
+    let (authority, at_additional) = records_at(
+        alloc,
+        bytes,
+        targets,
+        counts.authority,
+        at_authority,
+    )?;
+    let (additional, end) = records_at(alloc, bytes, targets, counts.additional, at_additional)?;
     if end < bytes.len() {
         return Err(DecodeFault::Trailing { at: end });
     }
@@ -75,16 +85,18 @@ fn header_of(message: &[u8]) -> Result<(Header, Counts), DecodeFault>
 fn questions_at(
     alloc: Global,
     message: &[u8],
+    targets: &[u16],
     count: u16,
 ) -> Result<(Questions, usize), DecodeFault>
-    requires { 12 ≤ length message.now }
+    requires header { 12 ≤ length message.now }
+    requires targets { AreTargets message.now targets.now }
     ensures questions { OrMemory (ItemsAt (QuestionAt message.now) count 12) result }
     ensures within { IfOk result (λ read. read.1 ≤ length message.now) }
 {
     let mut questions = Questions::new(alloc);
     let mut at = 12;
     'questions: for _index in 0..count {
-        let (question, next) = question_at(message, at)?;
+        let (question, next) = question_at(message, targets, at)?;
         questions.push(question)?;
         at = next;
     }
@@ -95,17 +107,19 @@ fn questions_at(
 fn records_at(
     alloc: Global,
     message: &[u8],
+    targets: &[u16],
     count: u16,
     from: usize,
 ) -> Result<(Records, usize), DecodeFault>
-    requires { from ≤ length message.now }
+    requires place { from ≤ length message.now }
+    requires targets { AreTargets message.now targets.now }
     ensures records { OrMemory (ItemsAt (RecordAt message.now) count from) result }
     ensures within { IfOk result (λ read. read.1 ≤ length message.now) }
 {
     let mut records = Records::new(alloc);
     let mut at = from;
     'records: for _index in 0..count {
-        let (record, next) = record_at(alloc, message, at)?;
+        let (record, next) = record_at(alloc, message, targets, at)?;
         records.push(record)?;
         at = next;
     }

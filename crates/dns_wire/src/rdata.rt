@@ -1,5 +1,6 @@
 //! The content of RDATA in a message.
 ghost use Rattle.std.specs.Prelude.{◌<◌, ◌≤◌, length, IfOk};
+ghost use Rattle.dns_name.specs.Targets.{AreTargets};
 ghost use Rattle.naptr_data.specs.Fields.{NameIn};
 ghost use Rattle.dns_wire.specs.Contents.{AddressIn, SoaIn, LastIn, ContentIn};
 ghost use Rattle.dns_wire.specs.declared.form.Form.TheVariants as form;
@@ -20,34 +21,37 @@ pub fn address<const N: usize>(message: &[u8], from: usize, to: usize) -> Result
 }
 
 /// The name that the RDATA ends with.
-pub fn last_name(message: &[u8], from: usize, to: usize) -> Result<Name, InFault>
+pub fn last_name(message: &[u8], targets: &[u16], from: usize, to: usize) -> Result<Name, InFault>
     requires begin { from ≤ to }
     requires end { to ≤ length message.now }
+    requires targets { AreTargets message.now targets.now }
     ensures { LastIn (NameIn message.now to) to from result }
 {
-    let (name, end) = name_in(message, from, to)?;
+    let (name, end) = name_in(message, targets, from, to)?;
     ends_in(name, end, to)
 }
 
 /// The data of an SOA record that the RDATA is (RFC 1035, 3.3.13).
-pub fn start(message: &[u8], from: usize, to: usize) -> Result<Soa, InFault>
+pub fn start(message: &[u8], targets: &[u16], from: usize, to: usize) -> Result<Soa, InFault>
     requires begin { from ≤ to }
     requires end { to ≤ length message.now }
+    requires targets { AreTargets message.now targets.now }
     ensures { LastIn (SoaIn message.now to) to from result }
 {
-    let (soa, end) = soa_in(message, from, to)?;
+    let (soa, end) = soa_in(message, targets, from, to)?;
     ends_in(soa, end, to)
 }
 
 // The fields of an SOA record.
-fn soa_in(message: &[u8], from: usize, to: usize) -> Result<(Soa, usize), InFault>
+fn soa_in(message: &[u8], targets: &[u16], from: usize, to: usize) -> Result<(Soa, usize), InFault>
     requires begin { from ≤ to }
     requires end { to ≤ length message.now }
+    requires targets { AreTargets message.now targets.now }
     ensures soa { SoaIn message.now to from result }
     ensures within { IfOk result (λ read. (from < read.1) × (read.1 ≤ to)) }
 {
-    let (mname, at_rname) = name_in(message, from, to)?;
-    let (rname, at_serial) = name_in(message, at_rname, to)?;
+    let (mname, at_rname) = name_in(message, targets, from, to)?;
+    let (rname, at_serial) = name_in(message, targets, at_rname, to)?;
     let (serial, at_refresh) = long_in(message, at_serial, to)?;
     let (refresh, at_retry) = long_in(message, at_refresh, to)?;
     let (retry, at_expire) = long_in(message, at_retry, to)?;
@@ -66,25 +70,27 @@ fn soa_in(message: &[u8], from: usize, to: usize) -> Result<(Soa, usize), InFaul
 }
 
 /// A preference and a mail exchange (RFC 1035, 3.3.9).
-pub fn exchange(message: &[u8], from: usize, to: usize) -> Result<Content, InFault>
+pub fn exchange(message: &[u8], targets: &[u16], from: usize, to: usize) -> Result<Content, InFault>
     requires begin { from ≤ to }
     requires end { to ≤ length message.now }
+    requires targets { AreTargets message.now targets.now }
     ensures { ContentIn form.Mx message.now from to result }
 {
     let (preference, at_exchange) = number_in(message, from, to)?;
-    let exchange = last_name(message, at_exchange, to)?;
+    let exchange = last_name(message, targets, at_exchange, to)?;
     Ok(Content::Mx(preference, exchange))
 }
 
 /// A priority, a weight, a port and a target (RFC 2782).
-pub fn service(message: &[u8], from: usize, to: usize) -> Result<Content, InFault>
+pub fn service(message: &[u8], targets: &[u16], from: usize, to: usize) -> Result<Content, InFault>
     requires begin { from ≤ to }
     requires end { to ≤ length message.now }
+    requires targets { AreTargets message.now targets.now }
     ensures { ContentIn form.Srv message.now from to result }
 {
     let (priority, at_weight) = number_in(message, from, to)?;
     let (weight, at_port) = number_in(message, at_weight, to)?;
     let (port, at_target) = number_in(message, at_port, to)?;
-    let target = last_name(message, at_target, to)?;
+    let target = last_name(message, targets, at_target, to)?;
     Ok(Content::Srv(priority, weight, port, target))
 }

@@ -1,5 +1,6 @@
 //! Questions and records in messages.
 ghost use Rattle.std.specs.Prelude.{◌<◌, ◌≤◌, length, IfOk};
+ghost use Rattle.dns_name.specs.Targets.{AreTargets};
 ghost use Rattle.dns_wire.specs.Message.{NameRead, QuestionAt, LengthAt, RecordAt};
 ghost use Rattle.dns_wire.specs.Outcome.{OrMemory};
 
@@ -16,12 +17,17 @@ use std::alloc::Global;
 ///
 /// # Errors
 /// The first of its fields that cannot be read.
-pub fn question_at(message: &[u8], at: usize) -> Result<(Question, usize), DecodeFault>
-    requires { at ≤ length message.now }
+pub fn question_at(
+    message: &[u8],
+    targets: &[u16],
+    at: usize,
+) -> Result<(Question, usize), DecodeFault>
+    requires place { at ≤ length message.now }
+    requires targets { AreTargets message.now targets.now }
     ensures question { QuestionAt message.now at result }
     ensures within { IfOk result (λ read. (at < read.1) × (read.1 ≤ length message.now)) }
 {
-    let (name, at_kind) = name_at(message, at)?;
+    let (name, at_kind) = name_at(message, targets, at)?;
     let (kind, at_class) = number_at(message, at_kind)?;
     let (class, end) = number_at(message, at_class)?;
     Ok((Question { name, kind, class }, end))
@@ -31,17 +37,23 @@ pub fn question_at(message: &[u8], at: usize) -> Result<(Question, usize), Decod
 ///
 /// # Errors
 /// The first of its fields that cannot be read, or want of memory.
-pub fn record_at(alloc: Global, message: &[u8], at: usize) -> Result<(Record, usize), DecodeFault>
-    requires { at ≤ length message.now }
+pub fn record_at(
+    alloc: Global,
+    message: &[u8],
+    targets: &[u16],
+    at: usize,
+) -> Result<(Record, usize), DecodeFault>
+    requires place { at ≤ length message.now }
+    requires targets { AreTargets message.now targets.now }
     ensures record { OrMemory (RecordAt message.now at) result }
     ensures within { IfOk result (λ read. (at < read.1) × (read.1 ≤ length message.now)) }
 {
-    let (owner, at_kind) = name_at(message, at)?;
+    let (owner, at_kind) = name_at(message, targets, at)?;
     let (kind, at_class) = number_at(message, at_kind)?;
     let (class, at_ttl) = number_at(message, at_class)?;
     let (ttl, at_length) = long_at(message, at_ttl)?;
     let (to, from) = length_at(message, at_length)?;
-    let content = content_in(alloc, form_of(kind, class), message, from, to)?;
+    let content = content_in(alloc, form_of(kind, class), message, targets, from, to)?;
     let record = Record {
         owner,
         kind,
@@ -53,12 +65,13 @@ pub fn record_at(alloc: Global, message: &[u8], at: usize) -> Result<(Record, us
 }
 
 // The name at that place, and the place behind it.
-fn name_at(message: &[u8], at: usize) -> Result<(Name, usize), DecodeFault>
-    requires { at ≤ length message.now }
+fn name_at(message: &[u8], targets: &[u16], at: usize) -> Result<(Name, usize), DecodeFault>
+    requires place { at ≤ length message.now }
+    requires targets { AreTargets message.now targets.now }
     ensures name { NameRead message.now at result }
     ensures within { IfOk result (λ read. (at < read.1) × (read.1 ≤ length message.now)) }
 {
-    Ok(Name::read_at(message, at)?)
+    Ok(Name::read_at_by(message, targets, at)?)
 }
 
 // The place where the RDATA ends by the RDLENGTH at that place, and the place where it begins.

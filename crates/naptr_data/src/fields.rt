@@ -1,5 +1,6 @@
 //! The fields of RDATA in a message. Each is read at a place, and lies before `to`, where the RDATA ends.
 ghost use Rattle.std.specs.Prelude.{◌<◌, ◌≤◌, length, IfOk};
+ghost use Rattle.dns_name.specs.Targets.{AreTargets};
 ghost use Rattle.naptr_data.specs.Fields.{NumberIn, TextIn, NameIn, EndsIn};
 
 use crate::in_fault::InFault;
@@ -48,17 +49,24 @@ pub fn text_in(message: &[u8], at: usize, to: usize) -> Result<(Text255, usize),
     Ok((text, end))
 }
 
-/// The name at that place, whose first label run lies before `to`, and the place behind it (RFC 1035, 4.1.4).
+/// The name at that place, whose first label run lies before `to`, and the place behind it (RFC 1035, 4.1.4). It is read by the
+/// targets of the message (`dns_name::targets_of`), of which there may be none.
 ///
 /// # Errors
 /// `Shape` at the label or pointer of the first run that does not lie wholly before `to`; `Name` where the name is broken otherwise.
-pub fn name_in(message: &[u8], at: usize, to: usize) -> Result<(Name, usize), InFault>
+pub fn name_in(
+    message: &[u8],
+    targets: &[u16],
+    at: usize,
+    to: usize,
+) -> Result<(Name, usize), InFault>
     requires begin { at ≤ to }
     requires end { to ≤ length message.now }
+    requires targets { AreTargets message.now targets.now }
     ensures name { NameIn message.now to at result }
     ensures within { IfOk result (λ read. (at < read.1) × (read.1 ≤ to)) }
 {
-    Ok(Name::read_within(message, at, to)?)
+    Ok(Name::read_within_by(message, targets, at, to)?)
 }
 
 /// The value whose last field ends at that place.

@@ -1,5 +1,6 @@
 //! Rules read from their RDATA.
 ghost use Rattle.std.specs.Prelude.{◌≡◌, ◌↔◌, ◌≤◌, length, Ok, Err, IfOk};
+ghost use Rattle.dns_name.specs.Targets.{AreTargets};
 ghost use Rattle.naptr_data.specs.Fields.{FrontIn, RuleIn};
 ghost use Rattle.naptr_data.specs.Bare.{BareRule};
 ghost use Rattle.naptr_data.specs.declared.in_fault.InFault.{InFault};
@@ -14,6 +15,7 @@ use crate::rule::Naptr;
 use dns_name::Name;
 
 impl Naptr {
+    ghost use Rattle.dns_name.specs.Targets.{AreTargets};
     ghost use Rattle.naptr_data.specs.Rdata.{rdata, IsRule};
 
     /// The rule of the RDATA between two places of a message, where its name may have pointers (RFC 3403, 4.1; RFC 1035, 4.1.4).
@@ -27,7 +29,26 @@ impl Naptr {
         ensures rule { (rule : Naptr) → (result ≡ Ok rule) ↔ RuleIn message.now from to (Ok rule) }
         ensures fault { (fault : InFault) → (result ≡ Err fault) ↔ RuleIn message.now from to (Err fault) }
     {
-        rule_in(message, from, to)
+        rule_in(message, &[], from, to)
+    }
+
+    /// The same as `read_in`, where the targets of the message (`dns_name::targets_of`) are at hand.
+    ///
+    /// # Errors
+    /// As `read_in`.
+    pub fn read_in_by(
+        message: &[u8],
+        targets: &[u16],
+        from: usize,
+        to: usize,
+    ) -> Result<Naptr, InFault>
+        requires begin { from ≤ to }
+        requires end { to ≤ length message.now }
+        requires targets { AreTargets message.now targets.now }
+        ensures rule { (rule : Naptr) → (result ≡ Ok rule) ↔ RuleIn message.now from to (Ok rule) }
+        ensures fault { (fault : InFault) → (result ≡ Err fault) ↔ RuleIn message.now from to (Err fault) }
+    {
+        rule_in(message, targets, from, to)
     }
 
     /// The rule of these bytes, which are its whole RDATA. A pointer in its name is `BadName`.
@@ -43,13 +64,14 @@ impl Naptr {
 }
 
 // The rule of the RDATA in a message, by one clause.
-fn rule_in(message: &[u8], from: usize, to: usize) -> Result<Naptr, InFault>
+fn rule_in(message: &[u8], targets: &[u16], from: usize, to: usize) -> Result<Naptr, InFault>
     requires begin { from ≤ to }
     requires end { to ≤ length message.now }
+    requires targets { AreTargets message.now targets.now }
     ensures { RuleIn message.now from to result }
 {
     let (front, at) = front_in(message, from, to)?;
-    let (replacement, at) = name_in(message, at, to)?;
+    let (replacement, at) = name_in(message, targets, at, to)?;
     ends_in(
         Naptr {
             replacement,

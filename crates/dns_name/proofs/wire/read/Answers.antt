@@ -1,6 +1,7 @@
 use Rattle.std.proofs.Common.{◌≡◌, [], refl, ap, arith, length, take, drop, ◌+◌, ◌-◌, ◌∙◌}
 use Rattle.dns_name.proofs.ReadLemmas.{reaches-start}
 use Rattle.dns_name.proofs.CodeLemmas.{root-wire, root-name, label-step, pointer-step}
+use Rattle.dns_name.proofs.TargetLemmas.{hops-of, target-low, chain-step, smaller}
 use Rattle.dns_name.proofs.wire.read.Goals as goal
 
 pub fields-init : goal.fields-init
@@ -10,8 +11,8 @@ fields-init c = record {
   far = reaches-start c.args.message.now c.args.at;
   bytes = c.new-wire.ensures;
   behind = refl;
-  within = c.requires;
-  inside = c.requires;
+  within = c.requires.place;
+  inside = c.requires.place;
 }
 
 pub of_wire-requires : goal.of_wire-requires
@@ -33,4 +34,12 @@ fields-preserved-in-Label c =
 
 pub fields-preserved : goal.fields-preserved
 fields-preserved c =
-    pointer-step c.args.message.now c.args.at c.fields.wire c.fields.start c.fields.here c.fields.next c.in-Pointer.offset _ c.fields.invariant (rw c.in-Pointer.is at c.in_ok-field_at.ensures) c.if-offset-limit.false c.unwrap_or-in-Pointer.ensures
+    let message = c.args.message.now in
+    let hops = hops-of message c.args.targets.now c.in-Pointer.offset c.target_of-start.result c.requires.targets c.target_of-start.ensures in
+    chain-step message c.args.at c.fields.wire c.in-Pointer.offset _ c.target_of-start.result (pointer-step message c.args.at c.fields.wire c.fields.start c.fields.here c.fields.next c.in-Pointer.offset _ c.fields.invariant (rw c.in-Pointer.is at c.in_ok-field_at.ensures) c.if-offset-limit.false c.unwrap_or-in-Pointer.ensures) hops
+
+pub fields-smaller : goal.fields-smaller
+fields-smaller c =
+    let low = target-low c.args.message.now c.args.targets.now c.in-Pointer.offset c.target_of-start.result c.requires.targets c.target_of-start.ensures in
+    let below = c.if-offset-limit.false in
+    smaller c.target_of-start.result c.fields.start c.fields.here (length c.args.message.now) (omega arith)

@@ -11,12 +11,12 @@ broken : (message : List ℕ) (at : ℕ) (fault : WireFault) (result : Result (L
 broken message at fault (Ok read) h is = absurd is
 broken message at fault (Err told) h is = inr (fault, h, ap Err is)
 
-pub returns-in_err-read_at-clause-name : goal.returns-in_err-read_at-clause-name
-returns-in_err-read_at-clause-name c =
-    let fault = c.in_err-read_at.field-0.0 in
-    broken c.args.message.now c.args.at fault _ ((c.in_err-read_at.ensures.fault fault).0 refl) c.from_residual.ensures.1
+pub returns-in_err-read_at_by-clause-name : goal.returns-in_err-read_at_by-clause-name
+returns-in_err-read_at_by-clause-name c =
+    let fault = c.in_err-read_at_by.field-0.0 in
+    broken c.args.message.now c.args.at fault _ ((c.in_err-read_at_by.ensures.fault fault).0 refl) c.from_residual.ensures.1
 
 pub returns-clause-name : goal.returns-clause-name
 returns-clause-name c =
-    let read = c.in_ok-read_at.field-0 in
-    inl (read.0, read.1, (c.in_ok-read_at.ensures.name read.0 read.1).0 refl, refl)
+    let read = c.in_ok-read_at_by.field-0 in
+    inl (read.0, read.1, (c.in_ok-read_at_by.ensures.name read.0 read.1).0 refl, refl)
