@@ -4,6 +4,7 @@ use Rattle.std.proofs.Math.Nat.{mul-le-mul_right}
 use Rattle.dns_name.specs.Wire.{PointerAt, Field, Leads, labels_in, behind_pointer, by_label, by_pointer}
 use Rattle.dns_name.specs.Targets.{Hops, AreTargets}
 use Rattle.dns_name.proofs.CodeLemmas.{IsReading}
+use Rattle.dns_name.proofs.WithinLemmas.{start_low}
 
 -- a chain of none, and of one pointer more in front
 pub hops-none : (message : List ℕ) (at : ℕ) → Hops message at at
@@ -16,14 +17,8 @@ hops-first message at offset to there below rest = record {
   bare = rest.bare;
 }
 
-leads-low : (message : List ℕ) (s a : ℕ) (fs : List Field) (t h : ℕ) → Leads message s a fs t h → t ≤ s
-leads-low message s a [] t h f = let e = f.0 in omega arith
-leads-low message s a (by_label l ∷ fs) t h f = leads-low message s (a + (length l + 1)) fs t h f.1
-leads-low message s a (by_pointer o ∷ fs) t h f =
-    let low = leads-low message o o fs t h f.2 in let below = f.1 in omega arith
-
 hops-low : (message : List ℕ) (from to : ℕ) → Hops message from to → to ≤ from
-hops-low message from to h = leads-low message from from h.fields to to h.leads
+hops-low message from to h = start_low message from from h.fields to to h.leads
 
 -- the target of an offset
 pub hops-of : (message targets : List ℕ) (offset to : ℕ) → AreTargets message targets → to ≡ get_or targets offset offset → Hops message offset to

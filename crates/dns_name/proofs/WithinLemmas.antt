@@ -63,7 +63,7 @@ pub record Run (message : List ℕ) (at : ℕ) (labels : List (List ℕ)) (here 
   pub spelt : labels ≡ labels_in fields
   pub short : length (wire_of labels) ≤ 255
 
-start_low : (message : List ℕ) (s a : ℕ) (fs : List Field) (t h : ℕ) → Leads message s a fs t h → t ≤ s
+pub start_low : (message : List ℕ) (s a : ℕ) (fs : List Field) (t h : ℕ) → Leads message s a fs t h → t ≤ s
 start_low message s a [] t h f = let e = f.0 in omega arith
 start_low message s a (by_label l ∷ fs) t h f = start_low message s (a + (length l + 1)) fs t h f.1
 start_low message s a (by_pointer o ∷ fs) t h f =

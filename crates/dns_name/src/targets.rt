@@ -33,16 +33,23 @@ pub fn targets_of(alloc: Global, message: &[u8]) -> Result<Targets, MemoryFault>
 
 // Whether a pointer leads to another before it. No clause is needed: targets are free to be none.
 fn has_chain(message: &[u8]) -> bool {
-    for next in 1..message.len() {
-        let high = message[next - 1];
-        if high >= 192 {
-            let offset = 256 * usize::from(high - 192) + usize::from(message[next]);
-            if offset + 1 < next && message[offset] >= 192 {
-                return true;
-            }
+    for (at, high) in message.iter().enumerate() {
+        if *high >= 192 && leads_to_pointer(message, at) {
+            return true;
         }
     }
     false
+}
+
+// Whether the pointer at that place leads to another before it.
+fn leads_to_pointer(message: &[u8], at: usize) -> bool
+    requires { at ≤ length message.now }
+{
+    let [high, low, ..] = &message[at..] else {
+        return false;
+    };
+    let offset = 256 * usize::from(*high % 64) + usize::from(*low);
+    offset < at && message.get(offset).is_some_and(|first| *first >= 192)
 }
 
 // The target of that place, where those of the places before it are at hand.
