@@ -86,6 +86,7 @@ impl<A: Allocator> Column<A> {
     /// Adds to a row that of a place: one step where there is one.
     fn join_row<L: Ledger>(&self, from: u16, row: &mut Row, steps: &mut Steps<L>)
         ensures row { AddsPlaces (Leads self.now from) row.old row.new }
+        ensures counted { from < length self.now → steps.new ≡ steps.old + 1 }
         ensures steps { steps.new ≤ steps.old + 1 }
         ensures up { steps.old ≤ steps.new }
     {
