@@ -1,6 +1,6 @@
 -- Parts that are written one behind another.
 use Rattle.std.proofs.Common.{◌≡◌, ℕ, ◌+◌, ◌-◌, ◌<◌, ◌≤◌, List, [], ◌∷◌, ◌++◌, length, take, drop, get_or, Result, Ok, Err, OnOk, OnErr, sym, ◌∙◌, ap, subst, arith, append_assoc, length-append}
-use Rattle.std.proofs.lemmas.List.{take-take, drop-take, drop-drop, drop_all, length-take, append-nil, take_more}
+use Rattle.std.proofs.lemmas.List.{take-take, drop-take, drop-drop, drop_all, length-take, append-nil, take_more, flat_map_more}
 use Rattle.std.proofs.lemmas.List.Folds.{length-flat_map-take}
 use Rattle.std.proofs.Math.Seq.{take-append-add}
 use Rattle.std.specs.Int.{w16, to_be_bytes}
@@ -27,6 +27,12 @@ each-more {X} P items i item inside is each one =
     let more : take (i + 1) items ≡ take i items ++ item ∷ [] = take_more items i item inside ∙ ap (λ x. take i items ++ x ∷ []) (sym is) in
     let Q : List X → Type 0 = AllByRecursion P in
     subst Q (sym more) (AllByRecursion-append P (take i items) (item ∷ []) each (one, tt))
+
+-- one item more has its length more
+pub size_more : {X : Type 0} (wire : X → List ℕ) (items : List X) (i : ℕ) (item : X) → i < length items → item ≡ get_or items i item → length (flat_map wire (take (i + 1) items)) ≡ length (flat_map wire (take i items)) + length (wire item)
+size_more wire items i item inside is =
+    let more : take (i + 1) items ≡ take i items ++ item ∷ [] = take_more items i item inside ∙ ap (λ x. take i items ++ x ∷ []) (sym is) in
+    ap (λ x. length (flat_map wire x)) more ∙ ap length (sym (flat_map_more wire [] (take i items) item)) ∙ length-append (flat_map wire (take i items)) (wire item)
 
 -- where one of several items has no room, all of them have none
 pub flat_map-room : {X : Type 0} (wire : X → List ℕ) (items : List X) (i : ℕ) (item : X) (first now : List ℕ) (least : ℕ) → i < length items → item ≡ get_or items i item → now ≡ first ++ flat_map wire (take i items) → least ≤ length now + length (wire item) → least ≤ length first + length (flat_map wire items)

@@ -1,5 +1,5 @@
 //! What records say.
-ghost use Rattle.std.specs.Prelude.{◌≡◌, ◌≤◌, ◌+◌, ◌++◌, length, IfOk, OnOk, OnErr};
+ghost use Rattle.std.specs.Prelude.{◌≡◌, ◌≤◌, ◌+◌, ◌-◌, ◌^◌, ◌++◌, length, min, IfOk, OnOk, OnErr};
 ghost use Rattle.std.specs.List.{AllByRecursion, flat_map};
 ghost use Rattle.naptr_data.specs.Rdata.{string_wire, rdata, IsRule};
 ghost use Rattle.dns_wire.specs.Ranges.{AreBytes, IsText};
@@ -69,6 +69,23 @@ impl Content {
         let mut out = Bytes::new(alloc);
         self.write(&mut out)?;
         Ok(out)
+    }
+
+    /// The length of the RDATA, or the greatest number where that is less, as of more texts than any memory holds.
+    pub fn rdata_len(&self) -> usize
+        ensures { result ≡ min (length (rdata_of self.now)) (2 ^ 64 - 1) }
+    {
+        match self {
+            Content::A(address) => address_len(address),
+            Content::Ns(name) | Content::Cname(name) | Content::Ptr(name) => name.wire().len(),
+            Content::Soa(soa) => soa.rdata_len(),
+            Content::Mx(_, exchange) => 2 + exchange.wire().len(),
+            Content::Txt(texts) => texts_len(texts.as_slice()),
+            Content::Aaaa(address) => address_len(address),
+            Content::Srv(_, _, _, target) => 6 + target.wire().len(),
+            Content::Naptr(rule) => rule_len(rule),
+            Content::Opt(bytes) | Content::Raw(bytes) => bytes.as_slice().len(),
+        }
     }
 
     // Appends the RDATA.
@@ -147,6 +164,13 @@ impl Soa {
     ghost use Rattle.dns_wire.specs.Rdata.{soa_rdata};
     ghost use Rattle.dns_wire.specs.Ranges.{IsSoa};
 
+    // The length of the RDATA.
+    fn rdata_len(&self) -> usize
+        ensures { result ≡ length (soa_rdata self.now) }
+    {
+        self.mname.wire().len() + self.rname.wire().len() + 20
+    }
+
     // Appends the RDATA.
     fn write<T: Target>(&self, out: &mut T) -> Result<(), T::Fault>
         ensures ok { OnOk result (T.bytes out.new ≡ T.bytes out.old ++ soa_rdata self.now) }
@@ -161,6 +185,34 @@ impl Soa {
         append_u32(out, self.expire)?;
         append_u32(out, self.minimum)
     }
+}
+
+// How many bytes an address has.
+fn address_len<const SIZE: usize>(address: &[u8; SIZE]) -> usize
+    ensures { result ≡ length address.now }
+{
+    address.len()
+}
+
+// The length of the RDATA of a rule: two numbers, three texts with a length byte each, and a name.
+fn rule_len(rule: &Naptr) -> usize
+    ensures { result ≡ length (rdata rule.now) }
+{
+    let texts = rule.flags.as_bytes().len()
+        + rule.services.as_bytes().len()
+        + rule.regexp.as_bytes().len();
+    7 + texts + rule.replacement.wire().len()
+}
+
+// The length of the texts as character-strings, or the greatest number where that is less.
+fn texts_len(texts: &[Text255]) -> usize
+    ensures { result ≡ min (length (flat_map string_wire texts.now)) (2 ^ 64 - 1) }
+{
+    let mut size: usize = 0;
+    for text in texts {
+        size = size.saturating_add(text.as_bytes().len() + 1);
+    }
+    size
 }
 
 // Appends the address.
