@@ -1,10 +1,10 @@
 //! What records say.
-ghost use Rattle.std.specs.Prelude.{◌≡◌, ◌≤◌, ◌+◌, ◌-◌, ◌^◌, ◌++◌, length, min, IfOk, OnOk, OnErr};
+ghost use Rattle.std.specs.Prelude.{◌≡◌, ◌-◌, ◌^◌, ◌++◌, length, min, take, IfOk, OnOk};
 ghost use Rattle.std.specs.List.{AllByRecursion, flat_map};
-ghost use Rattle.naptr_data.specs.Rdata.{string_wire, rdata, IsRule};
+ghost use Rattle.naptr_data.specs.Rdata.{string_wire, rdata};
 ghost use Rattle.dns_wire.specs.Ranges.{AreBytes, IsText};
 
-use crate::target::{Target, append_u16, append_u32};
+use crate::append::{append, append_u16, append_u32};
 use dns_name::Name;
 use enum_base::{Bytes, List, MemoryFault, Text255};
 use naptr_data::Naptr;
@@ -88,32 +88,32 @@ impl Content {
         }
     }
 
-    // Appends the RDATA.
-    pub(crate) fn write<T: Target>(&self, out: &mut T) -> Result<(), T::Fault>
-        ensures ok { OnOk result (T.bytes out.new ≡ T.bytes out.old ++ rdata_of self.now) }
-        ensures err { OnErr result (T.least_refused ≤ length (T.bytes out.old) + length (rdata_of self.now)) }
+    // Appends the RDATA; where memory runs out, the front is as it was.
+    pub(crate) fn write(&self, out: &mut Bytes) -> Result<(), MemoryFault>
+        ensures ok { OnOk result (out.new ≡ out.old ++ rdata_of self.now) }
+        ensures front { take (length out.old) out.new ≡ out.old }
         ensures fits { OnOk result (IsContent self.now) }
     {
         match self {
             Content::A(address) => write_address(address, out),
             Content::Ns(name) | Content::Cname(name) | Content::Ptr(name) => {
-                out.append(name.wire())
+                append(name.wire(), out)
             }
             Content::Soa(soa) => soa.write(out),
             Content::Mx(preference, exchange) => {
-                append_u16(out, *preference)?;
-                out.append(exchange.wire())
+                append_u16(*preference, out)?;
+                append(exchange.wire(), out)
             }
             Content::Txt(texts) => write_texts(texts.as_slice(), out),
             Content::Aaaa(address) => write_address(address, out),
             Content::Srv(priority, weight, port, target) => {
-                append_u16(out, *priority)?;
-                append_u16(out, *weight)?;
-                append_u16(out, *port)?;
-                out.append(target.wire())
+                append_u16(*priority, out)?;
+                append_u16(*weight, out)?;
+                append_u16(*port, out)?;
+                append(target.wire(), out)
             }
-            Content::Naptr(rule) => write_rule(rule, out),
-            Content::Opt(bytes) | Content::Raw(bytes) => out.append(bytes.as_slice()),
+            Content::Naptr(rule) => rule.write(out),
+            Content::Opt(bytes) | Content::Raw(bytes) => append(bytes.as_slice(), out),
         }
     }
 
@@ -171,19 +171,19 @@ impl Soa {
         self.mname.wire().len() + self.rname.wire().len() + 20
     }
 
-    // Appends the RDATA.
-    fn write<T: Target>(&self, out: &mut T) -> Result<(), T::Fault>
-        ensures ok { OnOk result (T.bytes out.new ≡ T.bytes out.old ++ soa_rdata self.now) }
-        ensures err { OnErr result (T.least_refused ≤ length (T.bytes out.old) + length (soa_rdata self.now)) }
+    // Appends the RDATA; where memory runs out, the front is as it was.
+    fn write(&self, out: &mut Bytes) -> Result<(), MemoryFault>
+        ensures ok { OnOk result (out.new ≡ out.old ++ soa_rdata self.now) }
+        ensures front { take (length out.old) out.new ≡ out.old }
         ensures fits { OnOk result (IsSoa self.now) }
     {
-        out.append(self.mname.wire())?;
-        out.append(self.rname.wire())?;
-        append_u32(out, self.serial)?;
-        append_u32(out, self.refresh)?;
-        append_u32(out, self.retry)?;
-        append_u32(out, self.expire)?;
-        append_u32(out, self.minimum)
+        append(self.mname.wire(), out)?;
+        append(self.rname.wire(), out)?;
+        append_u32(self.serial, out)?;
+        append_u32(self.refresh, out)?;
+        append_u32(self.retry, out)?;
+        append_u32(self.expire, out)?;
+        append_u32(self.minimum, out)
     }
 }
 
@@ -216,36 +216,22 @@ fn texts_len(texts: &[Text255]) -> usize
 }
 
 // Appends the address.
-fn write_address<T: Target, const SIZE: usize>(
+fn write_address<const SIZE: usize>(
     address: &[u8; SIZE],
-    out: &mut T,
-) -> Result<(), T::Fault>
-    ensures ok { OnOk result (T.bytes out.new ≡ T.bytes out.old ++ address.now) }
-    ensures err { OnErr result (T.least_refused ≤ length (T.bytes out.old) + length address.now) }
+    out: &mut Bytes,
+) -> Result<(), MemoryFault>
+    ensures ok { OnOk result (out.new ≡ out.old ++ address.now) }
+    ensures front { take (length out.old) out.new ≡ out.old }
     ensures size { length address.now ≡ SIZE }
     ensures fits { AreBytes address.now }
 {
-    out.append(address)
+    append(address, out)
 }
 
-// Appends the RDATA of a rule.
-fn write_rule<T: Target>(rule: &Naptr, out: &mut T) -> Result<(), T::Fault>
-    ensures ok { OnOk result (T.bytes out.new ≡ T.bytes out.old ++ rdata rule.now) }
-    ensures err { OnErr result (T.least_refused ≤ length (T.bytes out.old) + length (rdata rule.now)) }
-    ensures fits { OnOk result (IsRule rule.now) }
-{
-    append_u16(out, rule.order)?;
-    append_u16(out, rule.preference)?;
-    write_text(&rule.flags, out)?;
-    write_text(&rule.services, out)?;
-    write_text(&rule.regexp, out)?;
-    out.append(rule.replacement.wire())
-}
-
-// Appends the texts as character-strings.
-fn write_texts<T: Target>(texts: &[Text255], out: &mut T) -> Result<(), T::Fault>
-    ensures ok { OnOk result (T.bytes out.new ≡ T.bytes out.old ++ flat_map string_wire texts.now) }
-    ensures err { OnErr result (T.least_refused ≤ length (T.bytes out.old) + length (flat_map string_wire texts.now)) }
+// Appends the texts as character-strings; where memory runs out, the front is as it was.
+fn write_texts(texts: &[Text255], out: &mut Bytes) -> Result<(), MemoryFault>
+    ensures ok { OnOk result (out.new ≡ out.old ++ flat_map string_wire texts.now) }
+    ensures front { take (length out.old) out.new ≡ out.old }
     ensures fits { OnOk result (AllByRecursion IsText texts.now) }
 {
     for text in texts {
@@ -254,15 +240,15 @@ fn write_texts<T: Target>(texts: &[Text255], out: &mut T) -> Result<(), T::Fault
     Ok(())
 }
 
-// Appends the text as a character-string.
-fn write_text<T: Target>(text: &Text255, out: &mut T) -> Result<(), T::Fault>
-    ensures ok { OnOk result (T.bytes out.new ≡ T.bytes out.old ++ string_wire text.now) }
-    ensures err { OnErr result (T.least_refused ≤ length (T.bytes out.old) + length (string_wire text.now)) }
+// Appends the text as a character-string; where memory runs out, the front is as it was.
+fn write_text(text: &Text255, out: &mut Bytes) -> Result<(), MemoryFault>
+    ensures ok { OnOk result (out.new ≡ out.old ++ string_wire text.now) }
+    ensures front { take (length out.old) out.new ≡ out.old }
     ensures fits { OnOk result (IsText text.now) }
 {
     let bytes = text.as_bytes();
-    out.append(&[bytes.len() as u8])?;
-    out.append(bytes)
+    append(&[bytes.len() as u8], out)?;
+    append(bytes, out)
 }
 
 fn copy_texts(alloc: Global, texts: &[Text255]) -> Result<Texts, MemoryFault>
