@@ -63,6 +63,9 @@ impl Content {
     ghost use Rattle.dns_wire.specs.Ranges.{IsContent};
 
     /// The RDATA, names without compression.
+    ///
+    /// # Errors
+    /// Memory ran out.
     pub fn rdata(&self, alloc: Global) -> Result<Bytes, MemoryFault>
         ensures { IfOk result (λ bytes. bytes ≡ rdata_of self.now) }
     {
@@ -138,6 +141,9 @@ impl Content {
     }
 
     /// Content that is equal to this one.
+    ///
+    /// # Errors
+    /// Memory ran out.
     pub fn copy(&self, alloc: Global) -> Result<Content, MemoryFault>
         ensures { IfOk result (λ content. content ≡ self.now) }
     {
