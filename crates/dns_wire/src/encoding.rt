@@ -1,6 +1,5 @@
 //! Messages as bytes.
 ghost use Rattle.std.specs.Prelude.{◌≡◌, ◌<◌, ◌≤◌, ◌++◌, ◌↔◌, length, take, IsTrue, OnOk, OnErr};
-ghost use Rattle.std.specs.Int.{w16, to_be_bytes};
 ghost use Rattle.std.specs.List.{AllByRecursion, flat_map};
 ghost use Rattle.dns_wire.specs.Ranges.{IsQuestion, IsRecord, IsHeader, IsMessage};
 ghost use Rattle.dns_wire.specs.Message.{Spells};

@@ -1,5 +1,5 @@
 //! Messages on a stream.
-ghost use Rattle.std.specs.Prelude.{◌≡◌, ℕ, ◌+◌, ◌≤◌, [], ◌++◌, length, drop, take, slice_range, OnOk, OnErr, IsNone, IfNone, IfSome, MatchOption, ◌↔◌};
+ghost use Rattle.std.specs.Prelude.{◌≡◌, ◌+◌, ◌≤◌, [], ◌++◌, length, drop, take, slice_range, OnOk, OnErr, IsNone, IfNone, IfSome, MatchOption, ◌↔◌};
 ghost use Rattle.std.specs.List.{AllByRecursion};
 ghost use Rattle.dns_wire.specs.Framing.{FitsFrame, IsNoWhole, BeginsWith};
 
