@@ -6,14 +6,14 @@ use crate::wire_fault::WireFault;
 
 /// What stands at a place of a name: its root, a label of that many bytes, or a pointer to that offset.
 #[derive(Clone, Copy)]
-pub enum Field {
+pub(crate) enum Field {
     Root,
     Label(usize),
     Pointer(usize),
 }
 
 /// What stands at that place (RFC 1035, 3.1 and 4.1.4).
-pub fn field_at(message: &[u8], at: usize) -> Result<Field, WireFault>
+pub(crate) fn field_at(message: &[u8], at: usize) -> Result<Field, WireFault>
     requires { at ≤ length message.now }
     ensures { IsField message.now at result }
 {

@@ -3,4 +3,4 @@
 use enum_base::Buffer;
 
 /// At most 63 bytes (RFC 1035, 2.3.4).
-pub type Label = Buffer<63>;
+pub(crate) type Label = Buffer<63>;

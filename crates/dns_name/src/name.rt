@@ -181,7 +181,7 @@ fn row_of(front: &[u8], back: &[u8]) -> [u8; 255]
 ghost use Rattle.dns_name.specs.Name.{IsWire, labels_of};
 
 /// The first label of wire bytes that are not the root's, and the wire bytes after it.
-pub fn split_first(wire: &[u8]) -> (&[u8], &[u8])
+pub(crate) fn split_first(wire: &[u8]) -> (&[u8], &[u8])
     requires name { IsWire wire.now }
     requires more { 1 < length wire.now }
     ensures labels { labels_of wire.now ≡ result.0.now ∷ labels_of result.1.now }

@@ -8,7 +8,7 @@ use enum_base::fold_byte;
 use std::cmp::Ordering;
 
 /// The order of two texts, byte by byte, with `A` to `Z` as small letters.
-pub fn cmp_folded_bytes(one: &[u8], other: &[u8]) -> Ordering
+pub(crate) fn cmp_folded_bytes(one: &[u8], other: &[u8]) -> Ordering
     ensures { result ≡ slice_cmp nat_cmp (folded one.now) (folded other.now) }
 {
     for at in 0..one.len().min(other.len()) {

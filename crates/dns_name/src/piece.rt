@@ -5,7 +5,7 @@ ghost use Rattle.std.specs.Char.{is_ascii_digit};
 /// What stands at the front of a text: a dot between labels, a byte of a label with the number of bytes
 /// that its escape takes beyond the first, or an escape that is ill-formed.
 #[derive(Clone, Copy)]
-pub enum Piece {
+pub(crate) enum Piece {
     Dot,
     Byte(u8, usize),
     Broken,

@@ -72,7 +72,7 @@ fn target_at(message: &[u8], targets: &[u16], at: u16) -> u16
 }
 
 /// The target of that offset, where it is known, else the offset.
-pub fn target_of(targets: &[u16], offset: usize) -> usize
+pub(crate) fn target_of(targets: &[u16], offset: usize) -> usize
     ensures { result ≡ get_or targets.now offset offset }
 {
     if offset < targets.len() {

@@ -1,5 +1,5 @@
 //! Names in messages.
-ghost use Rattle.std.specs.Prelude.{◌≡◌, ◌↔◌, ◌<◌, ◌≤◌, List, ℕ, length, IfOk, MatchOption};
+ghost use Rattle.std.specs.Prelude.{◌≡◌, ◌↔◌, ◌<◌, ◌≤◌, List, ℕ, length, IfOk, IfErr, OnOk, MatchOption};
 ghost use Rattle.dns_name.specs.Fields.{IsAnswer, IsWithin, cut_place};
 ghost use Rattle.dns_name.specs.Targets.{AreTargets};
 ghost use Rattle.dns_name.specs.Wire.{RunIsCut};
@@ -46,7 +46,8 @@ impl Name {
         read(message, targets, at)
     }
 
-    /// The name at that place, whose first label run lies before `to`. Runs that pointers lead to may lie behind it.
+    /// The name at that place, whose first label run lies before `to`. Runs that pointers lead to begin before the run that the
+    /// pointer ends, and may pass `to`.
     ///
     /// # Errors
     /// `Shape` where a label or pointer of the first run does not lie wholly before `to`, else as `read_at`.
@@ -157,14 +158,22 @@ fn read(message: &[u8], targets: &[u16], at: usize) -> Result<(Name, usize), Wir
                 here += size + 1;
             }
             Field::Pointer(offset) => {
-                let limit = start;
-                if offset >= limit {
-                    return Err(WireFault::ForwardPointer { at: here });
-                }
+                leads_back(offset, start, here)?;
                 next = Some(next.unwrap_or(here + 2));
                 start = target_of(targets, offset);
                 here = start;
             }
         }
     }
+}
+
+// That a pointer to that offset leads back from the run that begins at `start` and that it ends.
+fn leads_back(offset: usize, start: usize, here: usize) -> Result<(), WireFault>
+    ensures back { OnOk result (offset < start) }
+    ensures forward { IfErr result (λ fault. (fault ≡ WireFault.ForwardPointer here) × (start ≤ offset)) }
+{
+    if offset >= start {
+        return Err(WireFault::ForwardPointer { at: here });
+    }
+    Ok(())
 }

@@ -2,7 +2,6 @@
 use Rattle.std.proofs.Common.{◌≡◌, ◌⊎◌, ℕ, zero, suc, ◌+◌, ◌<◌, ◌≤◌, IsTrue, List, [], ◌∷◌, length, Result, Ok, Err, refl, sym, ◌∙◌, ap, subst, inl, inr, arith}
 use Rattle.std.proofs.Math.Bool.{Bool-set}
 use Rattle.std.specs.List.{AllByRecursion}
-use Rattle.enum_base.specs.Stages.{Then}
 use Rattle.enum_base.specs.Stages.Then.{goes, stops}
 use Rattle.enum_base.proofs.StageLaws.{IsSingle, IsTotal, IsSingle-is, IsTotal-is, IsSingle-then, IsTotal-then}
 use Rattle.dns_name.specs.Name.{IsByte}
@@ -14,7 +13,7 @@ use Rattle.dns_wire.specs.Kinds.{belongs}
 use Rattle.dns_wire.specs.Forms.{form_of}
 use Rattle.dns_wire.specs.Contents.{ContentIn}
 use Rattle.dns_wire.specs.DecodeFaults.{of_name, of_rdata}
-use Rattle.dns_wire.specs.Message.{NumberAt, NameRead, QuestionAt, LengthAt, RecordAt, ItemsAt, HeaderAt, MessageIs}
+use Rattle.dns_wire.specs.Message.{NumberAt, NameRead, QuestionAt, LengthAt, RecordAt, ItemsAt, HeaderNumbers, HeaderAt, MessageIs}
 use Rattle.dns_wire.specs.Outcome.{Told}
 use Rattle.dns_wire.specs.declared.content.Content.{Content}
 use Rattle.dns_wire.specs.declared.form.Form.{Form}
@@ -196,25 +195,7 @@ items-within one limit each (suc n) at low read (goes first h (stops fault k is)
 items-within one limit each (suc n) at low read (stops fault h is) = absurd cc
 
 -- headers
-abbrev Six : List ℕ → Result (Header × Counts) DecodeFault → Type 0
-Six message =
-    Then (NumberAt message 0) (λ id.
-    Then (NumberAt message id.1) (λ bits.
-    Then (NumberAt message bits.1) (λ questions.
-    Then (NumberAt message questions.1) (λ answers.
-    Then (NumberAt message answers.1) (λ authority.
-    Then (NumberAt message authority.1) (λ additional all.
-    all ≡ Ok (
-      record { id = id.0; bits = bits.0 },
-      record {
-        questions = questions.0;
-        answers = answers.0;
-        authority = authority.0;
-        additional = additional.0;
-      },
-    )))))))
-
-IsSingle-six : (message : List ℕ) → IsSingle (Six message)
+IsSingle-six : (message : List ℕ) → IsSingle (HeaderNumbers message)
 IsSingle-six message =
     IsSingle-then _ _ (IsSingle-number Short message (length message) 0) (λ id.
     IsSingle-then _ _ (IsSingle-number Short message (length message) id.1) (λ bits.
@@ -223,7 +204,7 @@ IsSingle-six message =
     IsSingle-then _ _ (IsSingle-number Short message (length message) answers.1) (λ authority.
     IsSingle-then _ _ (IsSingle-number Short message (length message) authority.1) (λ additional. IsSingle-is _))))))
 
-IsTotal-six : (message : List ℕ) → AllByRecursion IsByte message → IsTotal (Six message)
+IsTotal-six : (message : List ℕ) → AllByRecursion IsByte message → IsTotal (HeaderNumbers message)
 IsTotal-six message all =
     IsTotal-then _ _ (IsTotal-number Short message (length message) 0 all (omega arith)) (λ id h1.
     IsTotal-then _ _ (IsTotal-number Short message (length message) id.1 all (omega arith)) (λ bits h2.

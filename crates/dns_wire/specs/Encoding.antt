@@ -1,5 +1,5 @@
 -- The spelling of a message without pointers (RFC 1035, section 4.1).
-use Rattle.std.specs.Prelude.{ℕ, List, ◌++◌, length}
+use Rattle.std.specs.Prelude.{◌≡◌, ℕ, ◌+◌, ◌<◌, List, ◌++◌, length, Option, MatchOption}
 use Rattle.std.specs.Int.{w16, w32, to_be_bytes}
 use Rattle.std.specs.List.{flat_map}
 use Rattle.dns_name.specs.Name.{wire_of}
@@ -37,3 +37,7 @@ counts_of message = record {
 abbrev pub message_wire : Message → List ℕ
 message_wire message =
     header_wire message.header (counts_of message) ++ flat_map question_wire message.questions ++ flat_map record_wire message.answers ++ flat_map record_wire message.authority ++ flat_map record_wire message.additional
+
+-- what bytes leave of that much room, or that they have more
+abbrev pub Leaves : ℕ → List ℕ → Option ℕ → Type 0
+Leaves room bytes left = MatchOption left (room < length bytes) (λ rest. rest + length bytes ≡ room)

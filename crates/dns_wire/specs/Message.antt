@@ -76,11 +76,10 @@ ItemsAt one zero at = λ all. all ≡ Ok ([], at)
 ItemsAt one (suc more) at =
     Then (one at) (λ first. Then (ItemsAt one more first.1) (λ rest all. all ≡ Ok (first.0 ∷ rest.0, rest.1)))
 
--- a header: six numbers of 16 bits (RFC 1035, 4.1.1); or the message has fewer bytes
-abbrev pub HeaderAt : List ℕ → Result (Header × Counts) DecodeFault → Type 0
-HeaderAt message result =
-    ((12 ≤ length message)
-    × Then (NumberAt message 0) (λ id.
+-- six numbers of 16 bits (RFC 1035, 4.1.1)
+abbrev pub HeaderNumbers : List ℕ → Result (Header × Counts) DecodeFault → Type 0
+HeaderNumbers message =
+    Then (NumberAt message 0) (λ id.
     Then (NumberAt message id.1) (λ bits.
     Then (NumberAt message bits.1) (λ questions.
     Then (NumberAt message questions.1) (λ answers.
@@ -94,8 +93,11 @@ HeaderAt message result =
         authority = authority.0;
         additional = additional.0;
       },
-    ))))))) result)
-    ⊎ ((length message < 12) × (result ≡ Err (Short 0)))
+    )))))))
+
+-- a header; or the message has fewer bytes
+abbrev pub HeaderAt : List ℕ → Result (Header × Counts) DecodeFault → Type 0
+HeaderAt message result = ((12 ≤ length message) × HeaderNumbers message result) ⊎ ((length message < 12) × (result ≡ Err (Short 0)))
 
 -- a message: a header, and as many questions and records of three sections as it counts, up to the end (RFC 1035, 4.1)
 abbrev pub MessageIs : List ℕ → Result Message DecodeFault → Type 0

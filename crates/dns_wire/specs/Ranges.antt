@@ -9,7 +9,6 @@ use Rattle.dns_wire.specs.declared.content.Content.TheVariants as content
 use Rattle.dns_wire.specs.declared.question.Question.{Question}
 use Rattle.dns_wire.specs.declared.record.Record.{Record}
 use Rattle.dns_wire.specs.declared.message.Header.{Header}
-use Rattle.dns_wire.specs.declared.message.Counts.{Counts}
 use Rattle.dns_wire.specs.declared.message.Message.{Message}
 
 -- bytes
@@ -53,7 +52,7 @@ IsContent (content.Naptr rule) = IsRule rule
 IsContent (content.Opt options) = AreBytes options
 IsContent (content.Raw bytes) = AreBytes bytes
 
--- the values of a question, a record, a header and its counts are in their ranges
+-- the values of a question, a record and a header are in their ranges
 pub record IsQuestion (question : Question) : Type 0 where
   pub name : IsName question.name
   pub kind : IsShort question.kind
@@ -69,12 +68,6 @@ pub record IsRecord (one : Record) : Type 0 where
 pub record IsHeader (header : Header) : Type 0 where
   pub id : IsShort header.id
   pub bits : IsShort header.bits
-
-pub record AreCounts (counts : Counts) : Type 0 where
-  pub questions : IsShort counts.questions
-  pub answers : IsShort counts.answers
-  pub authority : IsShort counts.authority
-  pub additional : IsShort counts.additional
 
 -- the values of a message are in their ranges; that its lists can be counted its type keeps
 pub record IsMessage (message : Message) : Type 0 where

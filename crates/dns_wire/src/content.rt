@@ -1,10 +1,10 @@
 //! What records say.
-ghost use Rattle.std.specs.Prelude.{◌≡◌, ◌≤◌, ◌+◌, ◌++◌, length, IfOk, OnOk, OnErr};
+ghost use Rattle.std.specs.Prelude.{◌≡◌, ◌-◌, ◌^◌, ◌++◌, length, min, take, IfOk, OnOk};
 ghost use Rattle.std.specs.List.{AllByRecursion, flat_map};
-ghost use Rattle.naptr_data.specs.Rdata.{string_wire, rdata, IsRule};
+ghost use Rattle.naptr_data.specs.Rdata.{string_wire, rdata};
 ghost use Rattle.dns_wire.specs.Ranges.{AreBytes, IsText};
 
-use crate::target::{Target, append_u16, append_u32};
+use crate::append::{append, append_u16, append_u32};
 use dns_name::Name;
 use enum_base::{Bytes, List, MemoryFault, Text255};
 use naptr_data::Naptr;
@@ -63,6 +63,9 @@ impl Content {
     ghost use Rattle.dns_wire.specs.Ranges.{IsContent};
 
     /// The RDATA, names without compression.
+    ///
+    /// # Errors
+    /// Memory ran out.
     pub fn rdata(&self, alloc: Global) -> Result<Bytes, MemoryFault>
         ensures { IfOk result (λ bytes. bytes ≡ rdata_of self.now) }
     {
@@ -71,32 +74,49 @@ impl Content {
         Ok(out)
     }
 
-    // Appends the RDATA.
-    pub(crate) fn write<T: Target>(&self, out: &mut T) -> Result<(), T::Fault>
-        ensures ok { OnOk result (T.bytes out.new ≡ T.bytes out.old ++ rdata_of self.now) }
-        ensures err { OnErr result (T.least_refused ≤ length (T.bytes out.old) + length (rdata_of self.now)) }
+    /// The length of the RDATA, or the greatest number where that is less, as of more texts than any memory holds.
+    pub fn rdata_len(&self) -> usize
+        ensures { result ≡ min (length (rdata_of self.now)) (2 ^ 64 - 1) }
+    {
+        match self {
+            Content::A(address) => address_len(address),
+            Content::Ns(name) | Content::Cname(name) | Content::Ptr(name) => name.wire().len(),
+            Content::Soa(soa) => soa.rdata_len(),
+            Content::Mx(_, exchange) => 2 + exchange.wire().len(),
+            Content::Txt(texts) => texts_len(texts.as_slice()),
+            Content::Aaaa(address) => address_len(address),
+            Content::Srv(_, _, _, target) => 6 + target.wire().len(),
+            Content::Naptr(rule) => rule_len(rule),
+            Content::Opt(bytes) | Content::Raw(bytes) => bytes.as_slice().len(),
+        }
+    }
+
+    // Appends the RDATA; where memory runs out, the front is as it was.
+    pub(crate) fn write(&self, out: &mut Bytes) -> Result<(), MemoryFault>
+        ensures ok { OnOk result (out.new ≡ out.old ++ rdata_of self.now) }
+        ensures front { take (length out.old) out.new ≡ out.old }
         ensures fits { OnOk result (IsContent self.now) }
     {
         match self {
             Content::A(address) => write_address(address, out),
             Content::Ns(name) | Content::Cname(name) | Content::Ptr(name) => {
-                out.append(name.wire())
+                append(name.wire(), out)
             }
             Content::Soa(soa) => soa.write(out),
             Content::Mx(preference, exchange) => {
-                append_u16(out, *preference)?;
-                out.append(exchange.wire())
+                append_u16(*preference, out)?;
+                append(exchange.wire(), out)
             }
             Content::Txt(texts) => write_texts(texts.as_slice(), out),
             Content::Aaaa(address) => write_address(address, out),
             Content::Srv(priority, weight, port, target) => {
-                append_u16(out, *priority)?;
-                append_u16(out, *weight)?;
-                append_u16(out, *port)?;
-                out.append(target.wire())
+                append_u16(*priority, out)?;
+                append_u16(*weight, out)?;
+                append_u16(*port, out)?;
+                append(target.wire(), out)
             }
-            Content::Naptr(rule) => write_rule(rule, out),
-            Content::Opt(bytes) | Content::Raw(bytes) => out.append(bytes.as_slice()),
+            Content::Naptr(rule) => rule.write(out),
+            Content::Opt(bytes) | Content::Raw(bytes) => append(bytes.as_slice(), out),
         }
     }
 
@@ -121,6 +141,9 @@ impl Content {
     }
 
     /// Content that is equal to this one.
+    ///
+    /// # Errors
+    /// Memory ran out.
     pub fn copy(&self, alloc: Global) -> Result<Content, MemoryFault>
         ensures { IfOk result (λ content. content ≡ self.now) }
     {
@@ -147,53 +170,74 @@ impl Soa {
     ghost use Rattle.dns_wire.specs.Rdata.{soa_rdata};
     ghost use Rattle.dns_wire.specs.Ranges.{IsSoa};
 
-    // Appends the RDATA.
-    fn write<T: Target>(&self, out: &mut T) -> Result<(), T::Fault>
-        ensures ok { OnOk result (T.bytes out.new ≡ T.bytes out.old ++ soa_rdata self.now) }
-        ensures err { OnErr result (T.least_refused ≤ length (T.bytes out.old) + length (soa_rdata self.now)) }
+    // The length of the RDATA.
+    fn rdata_len(&self) -> usize
+        ensures { result ≡ length (soa_rdata self.now) }
+    {
+        self.mname.wire().len() + self.rname.wire().len() + 20
+    }
+
+    // Appends the RDATA; where memory runs out, the front is as it was.
+    fn write(&self, out: &mut Bytes) -> Result<(), MemoryFault>
+        ensures ok { OnOk result (out.new ≡ out.old ++ soa_rdata self.now) }
+        ensures front { take (length out.old) out.new ≡ out.old }
         ensures fits { OnOk result (IsSoa self.now) }
     {
-        out.append(self.mname.wire())?;
-        out.append(self.rname.wire())?;
-        append_u32(out, self.serial)?;
-        append_u32(out, self.refresh)?;
-        append_u32(out, self.retry)?;
-        append_u32(out, self.expire)?;
-        append_u32(out, self.minimum)
+        append(self.mname.wire(), out)?;
+        append(self.rname.wire(), out)?;
+        append_u32(self.serial, out)?;
+        append_u32(self.refresh, out)?;
+        append_u32(self.retry, out)?;
+        append_u32(self.expire, out)?;
+        append_u32(self.minimum, out)
     }
 }
 
+// How many bytes an address has.
+fn address_len<const SIZE: usize>(address: &[u8; SIZE]) -> usize
+    ensures { result ≡ length address.now }
+{
+    address.len()
+}
+
+// The length of the RDATA of a rule: two numbers, three texts with a length byte each, and a name.
+fn rule_len(rule: &Naptr) -> usize
+    ensures { result ≡ length (rdata rule.now) }
+{
+    let texts = rule.flags.as_bytes().len()
+        + rule.services.as_bytes().len()
+        + rule.regexp.as_bytes().len();
+    7 + texts + rule.replacement.wire().len()
+}
+
+// The length of the texts as character-strings, or the greatest number where that is less.
+fn texts_len(texts: &[Text255]) -> usize
+    ensures { result ≡ min (length (flat_map string_wire texts.now)) (2 ^ 64 - 1) }
+{
+    let mut size: usize = 0;
+    for text in texts {
+        size = size.saturating_add(text.as_bytes().len() + 1);
+    }
+    size
+}
+
 // Appends the address.
-fn write_address<T: Target, const SIZE: usize>(
+fn write_address<const SIZE: usize>(
     address: &[u8; SIZE],
-    out: &mut T,
-) -> Result<(), T::Fault>
-    ensures ok { OnOk result (T.bytes out.new ≡ T.bytes out.old ++ address.now) }
-    ensures err { OnErr result (T.least_refused ≤ length (T.bytes out.old) + length address.now) }
+    out: &mut Bytes,
+) -> Result<(), MemoryFault>
+    ensures ok { OnOk result (out.new ≡ out.old ++ address.now) }
+    ensures front { take (length out.old) out.new ≡ out.old }
     ensures size { length address.now ≡ SIZE }
     ensures fits { AreBytes address.now }
 {
-    out.append(address)
+    append(address, out)
 }
 
-// Appends the RDATA of a rule.
-fn write_rule<T: Target>(rule: &Naptr, out: &mut T) -> Result<(), T::Fault>
-    ensures ok { OnOk result (T.bytes out.new ≡ T.bytes out.old ++ rdata rule.now) }
-    ensures err { OnErr result (T.least_refused ≤ length (T.bytes out.old) + length (rdata rule.now)) }
-    ensures fits { OnOk result (IsRule rule.now) }
-{
-    append_u16(out, rule.order)?;
-    append_u16(out, rule.preference)?;
-    write_text(&rule.flags, out)?;
-    write_text(&rule.services, out)?;
-    write_text(&rule.regexp, out)?;
-    out.append(rule.replacement.wire())
-}
-
-// Appends the texts as character-strings.
-fn write_texts<T: Target>(texts: &[Text255], out: &mut T) -> Result<(), T::Fault>
-    ensures ok { OnOk result (T.bytes out.new ≡ T.bytes out.old ++ flat_map string_wire texts.now) }
-    ensures err { OnErr result (T.least_refused ≤ length (T.bytes out.old) + length (flat_map string_wire texts.now)) }
+// Appends the texts as character-strings; where memory runs out, the front is as it was.
+fn write_texts(texts: &[Text255], out: &mut Bytes) -> Result<(), MemoryFault>
+    ensures ok { OnOk result (out.new ≡ out.old ++ flat_map string_wire texts.now) }
+    ensures front { take (length out.old) out.new ≡ out.old }
     ensures fits { OnOk result (AllByRecursion IsText texts.now) }
 {
     for text in texts {
@@ -202,15 +246,15 @@ fn write_texts<T: Target>(texts: &[Text255], out: &mut T) -> Result<(), T::Fault
     Ok(())
 }
 
-// Appends the text as a character-string.
-fn write_text<T: Target>(text: &Text255, out: &mut T) -> Result<(), T::Fault>
-    ensures ok { OnOk result (T.bytes out.new ≡ T.bytes out.old ++ string_wire text.now) }
-    ensures err { OnErr result (T.least_refused ≤ length (T.bytes out.old) + length (string_wire text.now)) }
+// Appends the text as a character-string; where memory runs out, the front is as it was.
+fn write_text(text: &Text255, out: &mut Bytes) -> Result<(), MemoryFault>
+    ensures ok { OnOk result (out.new ≡ out.old ++ string_wire text.now) }
+    ensures front { take (length out.old) out.new ≡ out.old }
     ensures fits { OnOk result (IsText text.now) }
 {
     let bytes = text.as_bytes();
-    out.append(&[bytes.len() as u8])?;
-    out.append(bytes)
+    append(&[bytes.len() as u8], out)?;
+    append(bytes, out)
 }
 
 fn copy_texts(alloc: Global, texts: &[Text255]) -> Result<Texts, MemoryFault>

@@ -8,7 +8,7 @@ ghost use Rattle.dns_wire.specs.Outcome.{Told, OrMemory};
 use crate::content::{Content, copy_bytes};
 use crate::decode_fault::DecodeFault;
 use crate::form::Form;
-use crate::rdata::{address, exchange, last_name, service, start};
+use crate::rdata::{read_address, read_last_name, read_mx, read_soa, read_srv};
 use crate::rdata_field::texts_in;
 use naptr_data::Naptr;
 use std::alloc::Global;
@@ -17,8 +17,8 @@ use std::alloc::Global;
 ///
 /// # Errors
 /// `RdataShape` where a field, label or pointer does not lie wholly in the RDATA, or the content ends before it does; the fault of
-/// a name; want of memory.
-pub fn content_in(
+/// a name; `Memory`.
+pub(crate) fn content_in(
     alloc: Global,
     form: Form,
     message: &[u8],
@@ -32,15 +32,15 @@ pub fn content_in(
     ensures { OrMemory (Told of_rdata (ContentIn form message.now from to)) result }
 {
     match form {
-        Form::A => Ok(Content::A(address(message, from, to)?)),
-        Form::Ns => Ok(Content::Ns(last_name(message, targets, from, to)?)),
-        Form::Cname => Ok(Content::Cname(last_name(message, targets, from, to)?)),
-        Form::Soa => Ok(Content::Soa(start(message, targets, from, to)?)),
-        Form::Ptr => Ok(Content::Ptr(last_name(message, targets, from, to)?)),
-        Form::Mx => Ok(exchange(message, targets, from, to)?),
+        Form::A => Ok(Content::A(read_address(message, from, to)?)),
+        Form::Ns => Ok(Content::Ns(read_last_name(message, targets, from, to)?)),
+        Form::Cname => Ok(Content::Cname(read_last_name(message, targets, from, to)?)),
+        Form::Soa => Ok(Content::Soa(read_soa(message, targets, from, to)?)),
+        Form::Ptr => Ok(Content::Ptr(read_last_name(message, targets, from, to)?)),
+        Form::Mx => Ok(read_mx(message, targets, from, to)?),
         Form::Txt => Ok(Content::Txt(texts_in(alloc, message, from, to)?)),
-        Form::Aaaa => Ok(Content::Aaaa(address(message, from, to)?)),
-        Form::Srv => Ok(service(message, targets, from, to)?),
+        Form::Aaaa => Ok(Content::Aaaa(read_address(message, from, to)?)),
+        Form::Srv => Ok(read_srv(message, targets, from, to)?),
         Form::Naptr => Ok(Content::Naptr(Naptr::read_in_by(message, targets, from, to)?)),
         Form::Opt => Ok(Content::Opt(copy_bytes(alloc, &message[from..to])?)),
         Form::Raw => Ok(Content::Raw(copy_bytes(alloc, &message[from..to])?)),

@@ -1,18 +1,14 @@
 //! Messages as bytes.
-ghost use Rattle.std.specs.Prelude.{◌≡◌, ◌<◌, ◌≤◌, ◌+◌, ◌++◌, ◌↔◌, length, OnOk, OnErr};
-ghost use Rattle.std.specs.Int.{w16, to_be_bytes};
+ghost use Rattle.std.specs.Prelude.{◌≡◌, ◌<◌, ◌≤◌, ◌++◌, ◌↔◌, length, take, IsTrue, OnOk, OnErr};
 ghost use Rattle.std.specs.List.{AllByRecursion, flat_map};
-ghost use Rattle.dns_wire.specs.Rdata.{rdata_of};
-ghost use Rattle.dns_wire.specs.Ranges.{IsContent, IsQuestion, IsRecord, IsHeader, IsMessage};
+ghost use Rattle.dns_wire.specs.Ranges.{IsQuestion, IsRecord, IsHeader, IsMessage};
 ghost use Rattle.dns_wire.specs.Message.{Spells};
-ghost use Rattle.dns_wire.specs.Encoding.{header_wire, counts_of, question_wire, record_wire, message_wire};
+ghost use Rattle.dns_wire.specs.Encoding.{header_wire, counts_of, question_wire, record_wire, message_wire, Leaves};
 
-use crate::content::Content;
+use crate::append::{append, append_u16, append_u32};
 use crate::message::{Counts, Header, Message};
 use crate::question::Question;
 use crate::record::Record;
-use crate::row::{Full, Row};
-use crate::target::{Target, append_u16, append_u32};
 use enum_base::{Bytes, MemoryFault};
 
 /// Why a message was not encoded.
@@ -22,16 +18,6 @@ pub enum EncodeFault {
     TooLong,
     /// Memory ran out.
     Memory,
-}
-
-impl From<Full> for EncodeFault {
-    ghost use Rattle.dns_wire.specs.declared.encoding.EncodeFault.TheVariants.{TooLong};
-
-    ghost from_gives = { λ full fault. fault ≡ TooLong };
-
-    fn from(_full: Full) -> Self {
-        EncodeFault::TooLong
-    }
 }
 
 impl From<MemoryFault> for EncodeFault {
@@ -44,29 +30,100 @@ impl From<MemoryFault> for EncodeFault {
     }
 }
 
-// The bytes of a message while they are written.
-type MessageRow = Row<65_535>;
-
 /// Appends the message, its names without pointers (RFC 1035, 4.1).
 ///
 /// # Errors
-/// `TooLong` exactly where it has more than 65,535 bytes.
+/// `TooLong` exactly where it has more than 65,535 bytes; `Memory`. Nothing is appended then.
 pub fn encode(message: &Message, out: &mut Bytes) -> Result<(), EncodeFault>
     ensures ok { OnOk result (out.new ≡ out.old ++ message_wire message.now) }
     ensures spells { OnOk result (Spells (message_wire message.now) message.now) }
     ensures too_long { (result ≡ Err EncodeFault.TooLong) ↔ (65_535 < length (message_wire message.now)) }
     ensures err { OnErr result (out.new ≡ out.old) }
 {
-    let mut row = MessageRow::new();
-    write_message(message, &mut row)?;
-    out.push_slice(row.as_slice())?;
+    if !is_short(message) {
+        return Err(EncodeFault::TooLong);
+    }
+    write_whole(message, out)?;
     Ok(())
 }
 
-// Appends the message.
-fn write_message(message: &Message, out: &mut MessageRow) -> Result<(), Full>
+// Whether the message has at most 65,535 bytes.
+fn is_short(message: &Message) -> bool
+    ensures { IsTrue result ↔ (length (message_wire message.now) ≤ 65_535) }
+{
+    match after_message(message) {
+        Some(_) => true,
+        None => false,
+    }
+}
+
+// What the message leaves of 65,535 bytes, if it has no more. It stops at the first question or record that passes them.
+fn after_message(message: &Message) -> Option<usize>
+    ensures { Leaves 65_535 (message_wire message.now) result }
+{
+    let room = after_questions(message.questions.as_slice(), 65_535 - 12)?;
+    let room = after_records(message.answers.as_slice(), room)?;
+    let room = after_records(message.authority.as_slice(), room)?;
+    after_records(message.additional.as_slice(), room)
+}
+
+// What the questions leave of that many bytes.
+fn after_questions(questions: &[Question], room: usize) -> Option<usize>
+    ensures { Leaves room (flat_map question_wire questions.now) result }
+{
+    let mut left = room;
+    for question in questions {
+        left = after_question(question, left)?;
+    }
+    Some(left)
+}
+
+// What the question leaves of that many bytes.
+fn after_question(question: &Question, room: usize) -> Option<usize>
+    ensures { Leaves room (question_wire question.now) result }
+{
+    room.checked_sub(question.name.wire().len() + 4)
+}
+
+// What the records leave of that many bytes.
+fn after_records(records: &[Record], room: usize) -> Option<usize>
+    ensures { Leaves room (flat_map record_wire records.now) result }
+{
+    let mut left = room;
+    for one in records {
+        left = after_record(one, left)?;
+    }
+    Some(left)
+}
+
+// What the record leaves of that many bytes.
+fn after_record(one: &Record, room: usize) -> Option<usize>
+    ensures { Leaves room (record_wire one.now) result }
+{
+    let left = room.checked_sub(one.owner.wire().len() + 10)?;
+    left.checked_sub(one.content.rdata_len())
+}
+
+// Appends the message, all or nothing.
+fn write_whole(message: &Message, out: &mut Bytes) -> Result<(), MemoryFault>
+    requires { length (message_wire message.now) ≤ 65_535 }
     ensures ok { OnOk result (out.new ≡ out.old ++ message_wire message.now) }
-    ensures full { OnErr result (65_535 < length out.old + length (message_wire message.now)) }
+    ensures err { OnErr result (out.new ≡ out.old) }
+    ensures fits { OnOk result (IsMessage message.now) }
+{
+    let held = out.as_slice().len();
+    let written = write_message(message, out);
+    if written.is_err() {
+        out.truncate(held);
+    }
+    written
+}
+
+// Appends the message; where memory runs out, the front is as it was. So do the functions below.
+fn write_message(message: &Message, out: &mut Bytes) -> Result<(), MemoryFault>
+    requires { length (message_wire message.now) ≤ 65_535 }
+    ensures ok { OnOk result (out.new ≡ out.old ++ message_wire message.now) }
+    ensures front { take (length out.old) out.new ≡ out.old }
     ensures fits { OnOk result (IsMessage message.now) }
 {
     let counts = counts(message);
@@ -78,17 +135,17 @@ fn write_message(message: &Message, out: &mut MessageRow) -> Result<(), Full>
 }
 
 // Appends the header.
-fn write_header(header: &Header, counts: &Counts, out: &mut MessageRow) -> Result<(), Full>
+fn write_header(header: &Header, counts: &Counts, out: &mut Bytes) -> Result<(), MemoryFault>
     ensures ok { OnOk result (out.new ≡ out.old ++ header_wire header.now counts.now) }
-    ensures full { OnErr result (65_535 < length out.old + length (header_wire header.now counts.now)) }
+    ensures front { take (length out.old) out.new ≡ out.old }
     ensures fits { OnOk result (IsHeader header.now) }
 {
-    append_u16(out, header.id)?;
-    append_u16(out, header.bits)?;
-    append_u16(out, counts.questions)?;
-    append_u16(out, counts.answers)?;
-    append_u16(out, counts.authority)?;
-    append_u16(out, counts.additional)
+    append_u16(header.id, out)?;
+    append_u16(header.bits, out)?;
+    append_u16(counts.questions, out)?;
+    append_u16(counts.answers, out)?;
+    append_u16(counts.authority, out)?;
+    append_u16(counts.additional, out)
 }
 
 // How many items the lists have.
@@ -104,9 +161,9 @@ fn counts(message: &Message) -> Counts
 }
 
 // Appends the questions.
-fn write_questions(questions: &[Question], out: &mut MessageRow) -> Result<(), Full>
+fn write_questions(questions: &[Question], out: &mut Bytes) -> Result<(), MemoryFault>
     ensures ok { OnOk result (out.new ≡ out.old ++ flat_map question_wire questions.now) }
-    ensures full { OnErr result (65_535 < length out.old + length (flat_map question_wire questions.now)) }
+    ensures front { take (length out.old) out.new ≡ out.old }
     ensures fits { OnOk result (AllByRecursion IsQuestion questions.now) }
 {
     for question in questions {
@@ -116,20 +173,21 @@ fn write_questions(questions: &[Question], out: &mut MessageRow) -> Result<(), F
 }
 
 // Appends the question.
-fn write_question(question: &Question, out: &mut MessageRow) -> Result<(), Full>
+fn write_question(question: &Question, out: &mut Bytes) -> Result<(), MemoryFault>
     ensures ok { OnOk result (out.new ≡ out.old ++ question_wire question.now) }
-    ensures full { OnErr result (65_535 < length out.old + length (question_wire question.now)) }
+    ensures front { take (length out.old) out.new ≡ out.old }
     ensures fits { OnOk result (IsQuestion question.now) }
 {
-    out.append(question.name.wire())?;
-    append_u16(out, question.kind)?;
-    append_u16(out, question.class)
+    append(question.name.wire(), out)?;
+    append_u16(question.kind, out)?;
+    append_u16(question.class, out)
 }
 
 // Appends the records.
-fn write_records(records: &[Record], out: &mut MessageRow) -> Result<(), Full>
+fn write_records(records: &[Record], out: &mut Bytes) -> Result<(), MemoryFault>
+    requires { length (flat_map record_wire records.now) ≤ 65_535 }
     ensures ok { OnOk result (out.new ≡ out.old ++ flat_map record_wire records.now) }
-    ensures full { OnErr result (65_535 < length out.old + length (flat_map record_wire records.now)) }
+    ensures front { take (length out.old) out.new ≡ out.old }
     ensures fits { OnOk result (AllByRecursion IsRecord records.now) }
 {
     for one in records {
@@ -139,28 +197,16 @@ fn write_records(records: &[Record], out: &mut MessageRow) -> Result<(), Full>
 }
 
 // Appends the record.
-fn write_record(one: &Record, out: &mut MessageRow) -> Result<(), Full>
+fn write_record(one: &Record, out: &mut Bytes) -> Result<(), MemoryFault>
+    requires { length (record_wire one.now) ≤ 65_535 }
     ensures ok { OnOk result (out.new ≡ out.old ++ record_wire one.now) }
-    ensures full { OnErr result (65_535 < length out.old + length (record_wire one.now)) }
+    ensures front { take (length out.old) out.new ≡ out.old }
     ensures fits { OnOk result (IsRecord one.now) }
 {
-    out.append(one.owner.wire())?;
-    append_u16(out, one.kind)?;
-    append_u16(out, one.class)?;
-    append_u32(out, one.ttl)?;
-    write_rdata(&one.content, out)
-}
-
-// Appends the RDATA behind its length, which is known once the RDATA is written.
-fn write_rdata(content: &Content, out: &mut MessageRow) -> Result<(), Full>
-    ensures ok { OnOk result (out.new ≡ out.old ++ (to_be_bytes w16 (length (rdata_of content.now)) ++ rdata_of content.now)) }
-    ensures full { OnErr result (65_535 < length out.old + (2 + length (rdata_of content.now))) }
-    ensures fits { OnOk result (IsContent content.now) }
-{
-    let place = out.len();
-    append_u16(out, 0)?;
-    content.write(out)?;
-    let size = out.len() - (place + 2);
-    out.set_u16(place, size as u16);
-    Ok(())
+    append(one.owner.wire(), out)?;
+    append_u16(one.kind, out)?;
+    append_u16(one.class, out)?;
+    append_u32(one.ttl, out)?;
+    append_u16(one.content.rdata_len() as u16, out)?;
+    one.content.write(out)
 }

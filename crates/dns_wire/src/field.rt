@@ -9,7 +9,7 @@ use byteorder::{BigEndian, ByteOrder};
 ///
 /// # Errors
 /// `Short` where its two bytes do not lie in the message.
-pub fn number_at(message: &[u8], at: usize) -> Result<(u16, usize), DecodeFault>
+pub(crate) fn number_at(message: &[u8], at: usize) -> Result<(u16, usize), DecodeFault>
     requires { at ≤ length message.now }
     ensures number { NumberAt message.now at result }
     ensures within { IfOk result (λ read. (at < read.1) × (read.1 ≤ length message.now)) }
@@ -25,7 +25,7 @@ pub fn number_at(message: &[u8], at: usize) -> Result<(u16, usize), DecodeFault>
 ///
 /// # Errors
 /// `Short` where its four bytes do not lie in the message.
-pub fn long_at(message: &[u8], at: usize) -> Result<(u32, usize), DecodeFault>
+pub(crate) fn long_at(message: &[u8], at: usize) -> Result<(u32, usize), DecodeFault>
     requires { at ≤ length message.now }
     ensures number { LongAt message.now at result }
     ensures within { IfOk result (λ read. (at < read.1) × (read.1 ≤ length message.now)) }

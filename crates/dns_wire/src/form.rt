@@ -4,7 +4,7 @@ ghost use Rattle.dns_wire.specs.Forms.{form_of, internet_form};
 
 /// The forms of RDATA: addresses, names, fields one after another, options, and bytes as they stand.
 #[derive(Clone, Copy)]
-pub enum Form {
+pub(crate) enum Form {
     A,
     Aaaa,
     Ns,
@@ -20,7 +20,7 @@ pub enum Form {
 }
 
 /// The form of a record's RDATA.
-pub fn form_of(kind: u16, class: u16) -> Form
+pub(crate) fn form_of(kind: u16, class: u16) -> Form
     ensures { result ≡ form_of kind class }
 {
     if kind == 41 {

@@ -1,5 +1,5 @@
 //! Messages on a stream.
-ghost use Rattle.std.specs.Prelude.{◌≡◌, ℕ, ◌+◌, ◌≤◌, [], ◌++◌, length, drop, take, slice_range, OnOk, OnErr, IsNone, IfNone, IfSome, MatchOption, ◌↔◌};
+ghost use Rattle.std.specs.Prelude.{◌≡◌, ◌+◌, ◌≤◌, [], ◌++◌, length, drop, take, slice_range, OnOk, OnErr, IsNone, IfNone, IfSome, MatchOption, ◌↔◌};
 ghost use Rattle.std.specs.List.{AllByRecursion};
 ghost use Rattle.dns_wire.specs.Framing.{FitsFrame, IsNoWhole, BeginsWith};
 
@@ -45,6 +45,9 @@ impl Framer {
     }
 
     /// Appends a piece to the stream.
+    ///
+    /// # Errors
+    /// Memory ran out; the stream is then as it was.
     pub fn feed(&mut self, piece: &[u8]) -> Result<(), MemoryFault>
         ensures ok { OnOk result (self.new ≡ record self.old { rest = self.old.rest ++ piece.now }) }
         ensures err { OnErr result (self.new ≡ self.old) }

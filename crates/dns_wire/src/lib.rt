@@ -1,6 +1,7 @@
 //! Records of the domain name system (RFC 1035) and their content; messages, and messages on a stream.
 #![tactic(auto)]
 
+mod append;
 mod content;
 mod content_reading;
 mod decode_fault;
@@ -16,8 +17,6 @@ mod rdata;
 mod rdata_field;
 mod reading;
 mod record;
-mod row;
-mod target;
 
 pub use content::{Content, Soa, Texts};
 pub use decode_fault::DecodeFault;

@@ -15,7 +15,7 @@ pub struct Header {
 
 /// The counts of a header (RFC 1035, 4.1.1): how many questions and records of each section follow.
 #[derive(Clone, Copy)]
-pub struct Counts {
+pub(crate) struct Counts {
     pub questions: u16,
     pub answers: u16,
     pub authority: u16,

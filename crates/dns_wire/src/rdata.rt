@@ -6,12 +6,16 @@ ghost use Rattle.dns_wire.specs.Contents.{AddressIn, SoaIn, LastIn, ContentIn};
 ghost use Rattle.dns_wire.specs.declared.form.Form.TheVariants as form;
 
 use crate::content::{Content, Soa};
-use crate::rdata_field::{address_in, long_in};
+use crate::rdata_field::{address_in, long_in, short_in};
 use dns_name::Name;
-use naptr_data::{InFault, ends_in, name_in, number_in};
+use naptr_data::{InFault, ends_in, name_in};
 
 /// The address of that many bytes that the RDATA is (RFC 1035, 3.4.1; RFC 3596, 2.2).
-pub fn address<const N: usize>(message: &[u8], from: usize, to: usize) -> Result<[u8; N], InFault>
+pub(crate) fn read_address<const N: usize>(
+    message: &[u8],
+    from: usize,
+    to: usize,
+) -> Result<[u8; N], InFault>
     requires begin { from ≤ to }
     requires end { to ≤ length message.now }
     ensures { LastIn (AddressIn N message.now to) to from result }
@@ -21,7 +25,12 @@ pub fn address<const N: usize>(message: &[u8], from: usize, to: usize) -> Result
 }
 
 /// The name that the RDATA ends with.
-pub fn last_name(message: &[u8], targets: &[u16], from: usize, to: usize) -> Result<Name, InFault>
+pub(crate) fn read_last_name(
+    message: &[u8],
+    targets: &[u16],
+    from: usize,
+    to: usize,
+) -> Result<Name, InFault>
     requires begin { from ≤ to }
     requires end { to ≤ length message.now }
     requires targets { AreTargets message.now targets.now }
@@ -32,7 +41,12 @@ pub fn last_name(message: &[u8], targets: &[u16], from: usize, to: usize) -> Res
 }
 
 /// The data of an SOA record that the RDATA is (RFC 1035, 3.3.13).
-pub fn start(message: &[u8], targets: &[u16], from: usize, to: usize) -> Result<Soa, InFault>
+pub(crate) fn read_soa(
+    message: &[u8],
+    targets: &[u16],
+    from: usize,
+    to: usize,
+) -> Result<Soa, InFault>
     requires begin { from ≤ to }
     requires end { to ≤ length message.now }
     requires targets { AreTargets message.now targets.now }
@@ -70,27 +84,37 @@ fn soa_in(message: &[u8], targets: &[u16], from: usize, to: usize) -> Result<(So
 }
 
 /// A preference and a mail exchange (RFC 1035, 3.3.9).
-pub fn exchange(message: &[u8], targets: &[u16], from: usize, to: usize) -> Result<Content, InFault>
+pub(crate) fn read_mx(
+    message: &[u8],
+    targets: &[u16],
+    from: usize,
+    to: usize,
+) -> Result<Content, InFault>
     requires begin { from ≤ to }
     requires end { to ≤ length message.now }
     requires targets { AreTargets message.now targets.now }
     ensures { ContentIn form.Mx message.now from to result }
 {
-    let (preference, at_exchange) = number_in(message, from, to)?;
-    let exchange = last_name(message, targets, at_exchange, to)?;
+    let (preference, at_exchange) = short_in(message, from, to)?;
+    let exchange = read_last_name(message, targets, at_exchange, to)?;
     Ok(Content::Mx(preference, exchange))
 }
 
 /// A priority, a weight, a port and a target (RFC 2782).
-pub fn service(message: &[u8], targets: &[u16], from: usize, to: usize) -> Result<Content, InFault>
+pub(crate) fn read_srv(
+    message: &[u8],
+    targets: &[u16],
+    from: usize,
+    to: usize,
+) -> Result<Content, InFault>
     requires begin { from ≤ to }
     requires end { to ≤ length message.now }
     requires targets { AreTargets message.now targets.now }
     ensures { ContentIn form.Srv message.now from to result }
 {
-    let (priority, at_weight) = number_in(message, from, to)?;
-    let (weight, at_port) = number_in(message, at_weight, to)?;
-    let (port, at_target) = number_in(message, at_port, to)?;
-    let target = last_name(message, targets, at_target, to)?;
+    let (priority, at_weight) = short_in(message, from, to)?;
+    let (weight, at_port) = short_in(message, at_weight, to)?;
+    let (port, at_target) = short_in(message, at_port, to)?;
+    let target = read_last_name(message, targets, at_target, to)?;
     Ok(Content::Srv(priority, weight, port, target))
 }

@@ -17,7 +17,7 @@ use std::alloc::Global;
 ///
 /// # Errors
 /// The first of its fields that cannot be read.
-pub fn question_at(
+pub(crate) fn question_at(
     message: &[u8],
     targets: &[u16],
     at: usize,
@@ -36,8 +36,8 @@ pub fn question_at(
 /// The record at that place, and the place behind it (RFC 1035, 4.1.3).
 ///
 /// # Errors
-/// The first of its fields that cannot be read, or want of memory.
-pub fn record_at(
+/// The first of its fields that cannot be read, or `Memory`.
+pub(crate) fn record_at(
     alloc: Global,
     message: &[u8],
     targets: &[u16],

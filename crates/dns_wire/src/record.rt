@@ -42,6 +42,9 @@ impl Record {
     }
 
     /// A record that is equal to this one.
+    ///
+    /// # Errors
+    /// Memory ran out.
     pub fn copy(&self, alloc: Global) -> Result<Record, MemoryFault>
         ensures { IfOk result (λ copy. copy ≡ self.now) }
     {

@@ -8,7 +8,7 @@ use dns_name::{Name, WireFault};
 
 /// The name at that place, which has no pointers, and the place behind it. It is read in the bytes from there on, where no pointer has
 /// an offset before it.
-pub fn bare_name(bytes: &[u8], at: usize) -> Result<(Name, usize), RdataFault>
+pub(crate) fn bare_name(bytes: &[u8], at: usize) -> Result<(Name, usize), RdataFault>
     requires { at ≤ length bytes.now }
     ensures name { BareName bytes.now at result }
     ensures within { IfOk result (λ read. read.1 ≤ length bytes.now) }

@@ -11,7 +11,7 @@ use enum_base::Text255;
 ///
 /// # Errors
 /// `Shape` at its place where its two bytes do not lie before `to`.
-pub fn number_in(message: &[u8], at: usize, to: usize) -> Result<(u16, usize), InFault>
+pub(crate) fn number_in(message: &[u8], at: usize, to: usize) -> Result<(u16, usize), InFault>
     requires begin { at ≤ to }
     requires end { to ≤ length message.now }
     ensures number { NumberIn message.now to at result }

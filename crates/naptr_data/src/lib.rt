@@ -14,7 +14,7 @@ mod source;
 mod text;
 mod written;
 
-pub use fields::{ends_in, name_in, number_in, text_in};
+pub use fields::{ends_in, name_in, text_in};
 pub use in_fault::InFault;
 pub use laws::{
     offer_folds, one_offer, rank_is_total, rdata_is_read, rdata_tells_rules, rule_in_is_one,

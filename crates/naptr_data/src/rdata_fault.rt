@@ -35,7 +35,7 @@ impl From<InFault> for RdataFault {
 ghost use Rattle.naptr_data.specs.BareReading.{place_of};
 
 /// The place of what breaks a name.
-pub fn place_of(fault: WireFault) -> usize
+pub(crate) fn place_of(fault: WireFault) -> usize
     ensures { result ≡ place_of fault }
 {
     match fault {

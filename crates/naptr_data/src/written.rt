@@ -5,10 +5,10 @@ ghost use Rattle.naptr_data.specs.Rdata.{string_wire};
 use enum_base::{Buffer, Text255};
 
 /// At most 1027 bytes: two numbers, three character-strings and a name have no more.
-pub type Written = Buffer<1027>;
+pub(crate) type Written = Buffer<1027>;
 
 /// A character-string: its length byte, then its bytes (RFC 1035, 3.3).
-pub fn push_string(written: &mut Written, text: &Text255)
+pub(crate) fn push_string(written: &mut Written, text: &Text255)
     requires { length written.old + 256 ≤ 1027 }
     ensures text { written.new ≡ written.old ++ string_wire text.now }
     ensures short { length text.now ≤ 255 }

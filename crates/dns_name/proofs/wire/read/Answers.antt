@@ -36,10 +36,10 @@ pub fields-preserved : goal.fields-preserved
 fields-preserved c =
     let message = c.args.message.now in
     let hops = hops-of message c.args.targets.now c.in-Pointer.offset c.target_of-start.result c.requires.targets c.target_of-start.ensures in
-    chain-step message c.args.at c.fields.wire c.in-Pointer.offset _ c.target_of-start.result (pointer-step message c.args.at c.fields.wire c.fields.start c.fields.here c.fields.next c.in-Pointer.offset _ c.fields.invariant (rw c.in-Pointer.is at c.in_ok-field_at.ensures) c.if-offset-limit.false c.unwrap_or-in-Pointer.ensures) hops
+    chain-step message c.args.at c.fields.wire c.in-Pointer.offset _ c.target_of-start.result (pointer-step message c.args.at c.fields.wire c.fields.start c.fields.here c.fields.next c.in-Pointer.offset _ c.fields.invariant (rw c.in-Pointer.is at c.in_ok-field_at.ensures) c.in_ok-leads_back-in-Pointer.ensures.back c.unwrap_or-in-Pointer.ensures) hops
 
 pub fields-smaller : goal.fields-smaller
 fields-smaller c =
     let low = target-low c.args.message.now c.args.targets.now c.in-Pointer.offset c.target_of-start.result c.requires.targets c.target_of-start.ensures in
-    let below = c.if-offset-limit.false in
+    let below = c.in_ok-leads_back-in-Pointer.ensures.back in
     smaller c.target_of-start.result c.fields.start c.fields.here (length c.args.message.now) (omega arith)

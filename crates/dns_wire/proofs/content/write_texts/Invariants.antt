@@ -5,4 +5,4 @@ use Rattle.naptr_data.specs.Rdata.{string_wire}
 use Rattle.dns_wire.proofs.content.write_texts.Given as goal
 
 abbrev pub invariant-loop-text : goal.invariant-loop-text
-invariant-loop-text g l = (g.T.Target.bytes l.out ≡ g.T.Target.bytes l.initial.out ++ flat_map string_wire (take l.text-index l.texts)) × AllByRecursion IsText (take l.text-index l.texts)
+invariant-loop-text l = (l.out ≡ l.initial.out ++ flat_map string_wire (take l.text-index l.texts)) × AllByRecursion IsText (take l.text-index l.texts)

@@ -1,6 +1,26 @@
 use Rattle.std.specs.Int.{w16, to_be_bytes}
-use Rattle.dns_wire.proofs.EncodeLemmas.{on_ok, six_parts}
+use Rattle.dns_wire.proofs.EncodeLemmas.{front_through, on_ok, six_parts}
 use Rattle.dns_wire.proofs.encoding.write_header.Goals as goal
+
+pub returns-in_err-append_u16-2-clause-front : goal.returns-in_err-append_u16-2-clause-front
+returns-in_err-append_u16-2-clause-front c =
+    front_through _ _ _ c.append_u16.ensures.front c.append_u16-2.ensures.front
+
+pub returns-in_err-append_u16-3-clause-front : goal.returns-in_err-append_u16-3-clause-front
+returns-in_err-append_u16-3-clause-front c =
+    front_through _ _ _ (front_through _ _ _ c.append_u16.ensures.front c.append_u16-2.ensures.front) c.append_u16-3.ensures.front
+
+pub returns-in_err-append_u16-4-clause-front : goal.returns-in_err-append_u16-4-clause-front
+returns-in_err-append_u16-4-clause-front c =
+    front_through _ _ _ (front_through _ _ _ (front_through _ _ _ c.append_u16.ensures.front c.append_u16-2.ensures.front) c.append_u16-3.ensures.front) c.append_u16-4.ensures.front
+
+pub returns-in_err-append_u16-5-clause-front : goal.returns-in_err-append_u16-5-clause-front
+returns-in_err-append_u16-5-clause-front c =
+    front_through _ _ _ (front_through _ _ _ (front_through _ _ _ (front_through _ _ _ c.append_u16.ensures.front c.append_u16-2.ensures.front) c.append_u16-3.ensures.front) c.append_u16-4.ensures.front) c.append_u16-5.ensures.front
+
+pub returns-clause-front : goal.returns-clause-front
+returns-clause-front c =
+    front_through _ _ _ (front_through _ _ _ (front_through _ _ _ (front_through _ _ _ (front_through _ _ _ c.append_u16.ensures.front c.append_u16-2.ensures.front) c.append_u16-3.ensures.front) c.append_u16-4.ensures.front) c.append_u16-5.ensures.front) c.append_u16-6.ensures.front
 
 pub returns-clause-ok : goal.returns-clause-ok
 returns-clause-ok c =

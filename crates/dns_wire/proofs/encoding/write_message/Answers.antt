@@ -1,7 +1,23 @@
 use Rattle.std.specs.List.{flat_map}
 use Rattle.dns_wire.specs.Encoding.{header_wire, counts_of, question_wire, record_wire}
-use Rattle.dns_wire.proofs.EncodeLemmas.{on_ok, five_parts}
+use Rattle.dns_wire.proofs.EncodeLemmas.{front_through, on_ok, five_parts}
 use Rattle.dns_wire.proofs.encoding.write_message.Goals as goal
+
+pub returns-in_err-write_questions-clause-front : goal.returns-in_err-write_questions-clause-front
+returns-in_err-write_questions-clause-front c =
+    front_through _ _ _ c.write_header.ensures.front c.write_questions.ensures.front
+
+pub returns-in_err-write_records-clause-front : goal.returns-in_err-write_records-clause-front
+returns-in_err-write_records-clause-front c =
+    front_through _ _ _ (front_through _ _ _ c.write_header.ensures.front c.write_questions.ensures.front) c.write_records.ensures.front
+
+pub returns-in_err-write_records-2-clause-front : goal.returns-in_err-write_records-2-clause-front
+returns-in_err-write_records-2-clause-front c =
+    front_through _ _ _ (front_through _ _ _ (front_through _ _ _ c.write_header.ensures.front c.write_questions.ensures.front) c.write_records.ensures.front) c.write_records-2.ensures.front
+
+pub returns-clause-front : goal.returns-clause-front
+returns-clause-front c =
+    front_through _ _ _ (front_through _ _ _ (front_through _ _ _ (front_through _ _ _ c.write_header.ensures.front c.write_questions.ensures.front) c.write_records.ensures.front) c.write_records-2.ensures.front) c.write_records-3.ensures.front
 
 pub returns-clause-ok : goal.returns-clause-ok
 returns-clause-ok c =

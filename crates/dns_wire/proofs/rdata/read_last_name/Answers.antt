@@ -1,6 +1,6 @@
 use Rattle.enum_base.specs.Stages.Then.{goes}
 use Rattle.dns_wire.proofs.StepLemmas.{stop}
-use Rattle.dns_wire.proofs.rdata.last_name.Goals as goal
+use Rattle.dns_wire.proofs.rdata.read_last_name.Goals as goal
 
 pub returns-in_err-name : goal.returns-in_err-name
 returns-in_err-name c =

@@ -1,6 +1,6 @@
 use Rattle.enum_base.specs.Stages.Then.{goes}
 use Rattle.dns_wire.proofs.StepLemmas.{stop}
-use Rattle.dns_wire.proofs.rdata.start.Goals as goal
+use Rattle.dns_wire.proofs.rdata.read_soa.Goals as goal
 
 pub returns-in_err-soa : goal.returns-in_err-soa
 returns-in_err-soa c =

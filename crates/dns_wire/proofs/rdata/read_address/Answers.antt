@@ -1,6 +1,6 @@
 use Rattle.enum_base.specs.Stages.Then.{goes}
 use Rattle.dns_wire.proofs.StepLemmas.{stop}
-use Rattle.dns_wire.proofs.rdata.address.Goals as goal
+use Rattle.dns_wire.proofs.rdata.read_address.Goals as goal
 
 pub returns-in_err-bytes : goal.returns-in_err-bytes
 returns-in_err-bytes g c =

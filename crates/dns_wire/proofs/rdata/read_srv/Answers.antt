@@ -1,7 +1,7 @@
 use Rattle.std.proofs.Common.{refl}
 use Rattle.enum_base.specs.Stages.Then.{goes}
 use Rattle.dns_wire.proofs.StepLemmas.{stop}
-use Rattle.dns_wire.proofs.rdata.service.Goals as goal
+use Rattle.dns_wire.proofs.rdata.read_srv.Goals as goal
 
 pub returns-in_err-priority : goal.returns-in_err-priority
 returns-in_err-priority c =
