@@ -14,8 +14,8 @@ use Rattle.zone_db.specs.Zone.{IsPlain}
 use Rattle.zone_text.specs.Fed.{Fed}
 use Rattle.zone_text.specs.Zone.{Are, BreaksSoFar, ZoneBreaks, most_bytes}
 use Rattle.zone_text.specs.declared.fault.TextFault.{TextFault}
-use Rattle.zone_text.specs.declared.fault.TextWhy.{TextWhy}
-use Rattle.zone_text.specs.declared.fault.TextWhy.TheVariants as text
+use Rattle.zone_token.specs.declared.fault.TextWhy.{TextWhy}
+use Rattle.zone_token.specs.declared.fault.TextWhy.TheVariants as text
 use Rattle.zone_text.specs.declared.meaning.Statement.{Statement}
 use Rattle.enum_top.specs.Running.{Does, LeftBytes, LeftText, Refuses}
 use Rattle.enum_base.specs.Stages.Then.{goes, stops}

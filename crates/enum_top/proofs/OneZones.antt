@@ -7,7 +7,7 @@ use Rattle.zone_db.specs.Laws.{BuiltRecordsHaveNoFault, FittingZonesHaveNoAddFau
 use Rattle.zone_db.specs.Zone.{Zone}
 use Rattle.zone_text.specs.Zone.{ZoneBreaks, ZoneSays}
 use Rattle.zone_text.specs.declared.fault.TextFault.{TextFault}
-use Rattle.zone_text.specs.declared.fault.TextWhy.{TextWhy}
+use Rattle.zone_token.specs.declared.fault.TextWhy.{TextWhy}
 use Rattle.enum_top.specs.ZoneFiles.{Adds, Builds, Texts, ZonesFrom}
 use Rattle.enum_top.specs.declared.cause.Cause.{Cause}
 use Rattle.enum_top.specs.declared.cause.Cause.TheVariants as cause

@@ -19,7 +19,7 @@ use Rattle.zone_db.specs.declared.fault.AddFault.TheVariants as add
 use Rattle.zone_db.specs.declared.fault.ZoneFault.{ZoneFault}
 use Rattle.zone_db.specs.declared.fault.ZoneFault.TheVariants as fault
 use Rattle.zone_text.specs.Zone.{ZoneBreaks, ZoneSays}
-use Rattle.zone_text.specs.declared.fault.TextWhy.{TextWhy}
+use Rattle.zone_token.specs.declared.fault.TextWhy.{TextWhy}
 use Rattle.enum_top.specs.ZoneFiles.{Adds, Builds, Files, NextZone, TextAt, Texts, ZoneAt, ZonesFrom, found}
 use Rattle.enum_top.specs.declared.cause.Cause.TheVariants as cause
 use Rattle.enum_top.proofs.FileLemmas.{plain_at}

@@ -9,10 +9,10 @@ use Rattle.std.proofs.lemmas.Bool.{cond-true, cond-false, cond_both, ne_eqb, eq-
 use Rattle.std.proofs.lemmas.Bool.Decides.{nat_tests}
 use Rattle.std.proofs.lemmas.List.{append-nil}
 use Rattle.dns_name.specs.Name.{IsByte}
-use Rattle.zone_text.specs.Texts.{◌>>=◌}
-use Rattle.zone_text.specs.Addresses.{cut, colon, dot, octet_of, quad_of, hex_of, digits_of, group_of, last_group, groups_of, is_colon, double_from, cut_double, address_of}
-use Rattle.zone_text.proofs.TextLemmas.{bytes_before}
-use Rattle.zone_text.proofs.AddressLemmas.{groups-last, groups-step}
+use Rattle.zone_token.specs.Texts.{◌>>=◌}
+use Rattle.zone_token.specs.Addresses.{cut, colon, dot, octet_of, quad_of, hex_of, digits_of, group_of, last_group, groups_of, is_colon, double_from, cut_double, address_of}
+use Rattle.zone_token.proofs.TextLemmas.{bytes_before}
+use Rattle.zone_token.proofs.AddressLemmas.{groups-last, groups-step}
 use Rattle.zone_text.proofs.BareLemmas.{is_plain}
 use Rattle.zone_text.proofs.WrittenLemmas.{length-segments}
 use Rattle.zone_text.proofs.NumberLemmas.{cut-at, cut-none, of_decimal, octet_back}

@@ -8,8 +8,8 @@ use Rattle.std.proofs.lemmas.Bool.{cond-true, cond-false, cond_both}
 use Rattle.std.proofs.lemmas.Bool.Decides.{nat_tests}
 use Rattle.dns_name.specs.Name.{IsByte, IsLabel}
 use Rattle.dns_name.specs.Text.{decimal_of, is_special, is_visible as is_shown, byte_text, label_text, text_of}
-use Rattle.zone_text.specs.Bytes.{backslash, is_visible, is_escape}
-use Rattle.zone_text.specs.Tokens.{ends_bare, is_bare, bare_from}
+use Rattle.zone_token.specs.Bytes.{backslash, is_visible, is_escape}
+use Rattle.zone_token.specs.Tokens.{ends_bare, is_bare, bare_from}
 use Rattle.zone_text.proofs.QuotedLemmas.{digit_is, escaped-decimal}
 
 -- a byte that stands as it is in a bare token

@@ -19,16 +19,16 @@ use Rattle.naptr_data.specs.declared.rule.Naptr.{Naptr}
 use Rattle.dns_wire.specs.declared.content.Soa.{Soa}
 use Rattle.dns_wire.specs.declared.content.Content.{Content}
 use Rattle.dns_wire.specs.declared.content.Content.TheVariants as content
-use Rattle.zone_text.specs.Token.{Token}
-use Rattle.zone_text.specs.Tokens.{◌>>=◌, tokens_of}
-use Rattle.zone_text.specs.Times.{most_seconds, time_of}
-use Rattle.zone_text.specs.Addresses.{quad_of, address_of}
-use Rattle.zone_text.specs.Fields.{is_origin, name_in, name_or, name_at, bare_in, bare_at, ends_at, or_fault}
+use Rattle.zone_token.specs.Token.{Token}
+use Rattle.zone_token.specs.Tokens.{◌>>=◌, tokens_of}
+use Rattle.zone_token.specs.Times.{most_seconds, time_of}
+use Rattle.zone_token.specs.Addresses.{quad_of, address_of}
+use Rattle.zone_token.specs.Fields.{is_origin, name_in, name_or, name_at, bare_in, bare_at, ends_at, or_fault}
 use Rattle.zone_text.specs.Data.{number_at, time_at, quad_at, address_at, string_in, string_at, target_of, a_of, aaaa_of, soa_of, mx_of, strings_of, txt_of, srv_of, naptr_of, content_of}
 use Rattle.zone_text.specs.FieldsText.{fields_text}
 use Rattle.zone_text.specs.Laws.{type_of, IsAddress, IsString, IsSayable, FieldsAreReadAgain}
 use Rattle.zone_text.specs.declared.kind.Kind.{Kind}
-use Rattle.zone_text.specs.declared.fault.TextWhy.TheVariants.{BadName, BadData}
+use Rattle.zone_token.specs.declared.fault.TextWhy.TheVariants.{BadName, BadData}
 use Rattle.zone_text.proofs.BareLemmas.{is_plain, PassesBare-plain, PassesBare-name, Begins-plain, Begins-name, no_sign}
 use Rattle.zone_text.proofs.QuotedLemmas.{string_of-quoted}
 use Rattle.zone_text.proofs.FieldTokenLemmas.{bare, between_quotes, line_behind, line_of, Reads, Reads-bare, Reads-quoted, tokens_of-line_of}

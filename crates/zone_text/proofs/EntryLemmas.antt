@@ -3,12 +3,12 @@ use Rattle.std.specs.Prelude.{nat_lt}
 use Rattle.std.proofs.lemmas.List.{append-nil}
 use Rattle.std.proofs.lemmas.Bool.{cond-true, cond_both, lt-ltb}
 use Rattle.naptr_data.specs.Zones.{Labels}
-use Rattle.zone_text.specs.Entries.{beginning, behind, ends_entry, entries_from, entries_of, ended_from, ended_of}
+use Rattle.zone_token.specs.Entries.{beginning, behind, ends_entry, entries_from, entries_of, ended_from, ended_of}
 use Rattle.zone_text.specs.Zone.{most_bytes, bytes_of, entry_within, Break, BreaksSoFar, ZoneBreaks}
 use Rattle.zone_text.specs.Reading.{Read, unread, read_behind, on_line, step, run, rest_from, rest_of, ◌>>=◌}
-use Rattle.zone_text.specs.declared.spot.Spot.{Spot}
-use Rattle.zone_text.specs.declared.fault.TextWhy.{TextWhy}
-use Rattle.zone_text.specs.declared.fault.TextWhy.TheVariants.{TooLarge}
+use Rattle.zone_token.specs.declared.spot.Spot.{Spot}
+use Rattle.zone_token.specs.declared.fault.TextWhy.{TextWhy}
+use Rattle.zone_token.specs.declared.fault.TextWhy.TheVariants.{TooLarge}
 use Rattle.zone_text.specs.declared.fault.TextFault.{TextFault}
 use Rattle.zone_text.proofs.RunLemmas.{run-append, run-done, run-break, break-run, break-more}
 

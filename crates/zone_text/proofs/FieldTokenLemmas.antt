@@ -6,10 +6,10 @@ use Rattle.std.proofs.Math.Seq.{take-append_seam, drop-append_seam}
 use Rattle.std.proofs.lemmas.Bool.{cond-true, false≢true}
 use Rattle.naptr_data.specs.Text.{quoted_byte}
 use Rattle.dns_name.specs.Name.{IsByte}
-use Rattle.zone_text.specs.Bytes.{is_blank, line_feed, semicolon, opening, closing, quote}
-use Rattle.zone_text.specs.Token.{Token}
-use Rattle.zone_text.specs.Tokens.{◌>>=◌, nothing, one, ends_bare, bare_from, quoted_from, front_of, tokens_from, tokens_of}
-use Rattle.zone_text.proofs.TokenLemmas.{after_tokens, none-before, tokens-step, tokens-end}
+use Rattle.zone_token.specs.Bytes.{is_blank, line_feed, semicolon, opening, closing, quote}
+use Rattle.zone_token.specs.Token.{Token}
+use Rattle.zone_token.specs.Tokens.{◌>>=◌, nothing, one, ends_bare, bare_from, quoted_from, front_of, tokens_from, tokens_of}
+use Rattle.zone_token.proofs.TokenLemmas.{after_tokens, none-before, tokens-step, tokens-end}
 use Rattle.zone_text.proofs.QuotedLemmas.{Passes-string}
 use Rattle.zone_text.proofs.BareLemmas.{PassesBare, Begins}
 

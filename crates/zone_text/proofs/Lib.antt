@@ -1,8 +1,6 @@
-pub mod AddressLemmas
 pub mod AddressTextLemmas
 pub mod BareLemmas
 pub mod ContentLemmas
-pub mod CutLemmas
 pub mod EntryLemmas
 pub mod FieldTokenLemmas
 pub mod NumberLemmas
@@ -12,8 +10,5 @@ pub mod RecordLemmas
 pub mod RunLemmas
 pub mod ScanLemmas
 pub mod StringLemmas
-pub mod TextLemmas
-pub mod TimeLemmas
-pub mod TokenLemmas
 pub mod WholeLemmas
 pub mod WrittenLemmas

@@ -13,8 +13,8 @@ use Rattle.std.proofs.lemmas.Str.{digit_value_digit}
 use Rattle.std.proofs.lemmas.Str.Parse.{digit_from_value}
 use Rattle.std.proofs.lemmas.Fmt.{decimal_is_IsNumeral}
 use Rattle.enum_base.specs.Decimal.{decimal_value, first_non_digit, up_to, unless_at, number_up_to}
-use Rattle.zone_text.specs.Addresses.{cut, octet_of}
-use Rattle.zone_text.specs.Times.{most_seconds, time_of}
+use Rattle.zone_token.specs.Addresses.{cut, octet_of}
+use Rattle.zone_token.specs.Times.{most_seconds, time_of}
 use Rattle.zone_text.proofs.BareLemmas.{is_plain}
 
 -- elements at the front that pass

@@ -8,10 +8,10 @@ use Rattle.std.proofs.lemmas.Bool.Decides.{nat_tests}
 use Rattle.dns_name.specs.Name.{IsByte}
 use Rattle.dns_name.specs.Text.{decimal_of}
 use Rattle.naptr_data.specs.Text.{quoted_byte}
-use Rattle.zone_text.specs.Bytes.{line_feed, quote, backslash, is_quotable, escaped_byte, is_escape}
-use Rattle.zone_text.specs.Texts.{undone_from, string_of}
-use Rattle.zone_text.specs.Tokens.{is_in_quotes, quoted_from}
-use Rattle.zone_text.proofs.TextLemmas.{bytes_before, undone-step}
+use Rattle.zone_token.specs.Bytes.{line_feed, quote, backslash, is_quotable, escaped_byte, is_escape}
+use Rattle.zone_token.specs.Texts.{undone_from, string_of}
+use Rattle.zone_token.specs.Tokens.{is_in_quotes, quoted_from}
+use Rattle.zone_token.proofs.TextLemmas.{bytes_before, undone-step}
 
 -- a digit
 pub digit_is : (n : ℕ) → n ≤ 9 → is_ascii_digit (48 + n) ≡ true

@@ -7,15 +7,15 @@ use Rattle.std.proofs.lemmas.Bool.{and_parts, eqb-true}
 use Rattle.naptr_data.specs.Zones.{Labels}
 use Rattle.dns_wire.specs.Kinds.{internet, is_whole, kind_of}
 use Rattle.dns_wire.specs.declared.record.Record as wire
-use Rattle.zone_text.specs.Entries.{beginning, entries_from, entries_of, ended_from, ended_of, last_entry}
+use Rattle.zone_token.specs.Entries.{beginning, entries_from, entries_of, ended_from, ended_of, last_entry}
 use Rattle.zone_text.specs.Zone.{most_bytes, Break, BreaksSoFar, ZoneSays, ZoneBreaks, Are}
 use Rattle.zone_text.specs.Reading.{Read, unread, step, run, rest_from, rest_of, said_of, is_plain, ◌>>=◌}
 use Rattle.zone_text.specs.Fed.{Fed}
 use Rattle.zone_text.specs.Read.{seen, IsReading}
 use Rattle.zone_text.specs.declared.progress.Progress.{Progress}
-use Rattle.zone_text.specs.declared.spot.Spot.{Spot}
-use Rattle.zone_text.specs.declared.fault.TextWhy.{TextWhy}
-use Rattle.zone_text.specs.declared.fault.TextWhy.TheVariants.{TooLarge}
+use Rattle.zone_token.specs.declared.spot.Spot.{Spot}
+use Rattle.zone_token.specs.declared.fault.TextWhy.{TextWhy}
+use Rattle.zone_token.specs.declared.fault.TextWhy.TheVariants.{TooLarge}
 use Rattle.zone_text.specs.declared.fault.TextFault.{TextFault}
 use Rattle.zone_text.proofs.RunLemmas.{run-append, run-done, run-say, run-break, break-run, break-more}
 use Rattle.zone_text.proofs.EntryLemmas.{entries-split, ended-split, rest-split, too_large, run-over}

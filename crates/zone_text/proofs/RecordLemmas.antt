@@ -6,14 +6,14 @@ use Rattle.dns_wire.specs.Kinds.{internet, kind_of, is_whole, belongs}
 use Rattle.dns_wire.specs.declared.content.Content.{Content}
 use Rattle.dns_wire.specs.declared.content.Content.TheVariants as content
 use Rattle.dns_wire.specs.declared.record.Record as wire
-use Rattle.zone_text.specs.Entries.{entries_of}
+use Rattle.zone_token.specs.Entries.{entries_of}
 use Rattle.zone_text.specs.Zone.{most_bytes, beginning_with, standing_behind, Mean, statements_of, Is, Are, Say, Break, ZoneSays, ZoneBreaks, BreaksSoFar}
 use Rattle.zone_text.specs.Meaning.{is_whole_meaning}
 use Rattle.zone_text.specs.declared.meaning.Standing.{Standing}
 use Rattle.zone_text.specs.declared.meaning.Statement.{Statement}
 use Rattle.zone_text.specs.declared.meaning.Meaning.{Meaning}
 use Rattle.zone_text.specs.declared.meaning.Meaning.TheVariants.{Nothing, Origin, DefaultTtl, Record}
-use Rattle.zone_text.specs.declared.fault.TextWhy.{TextWhy}
+use Rattle.zone_token.specs.declared.fault.TextWhy.{TextWhy}
 use Rattle.zone_text.proofs.RunLemmas.{mean-one, say_or_break}
 use Rattle.zone_text.proofs.EntryLemmas.{entries-bytes}
 use Rattle.zone_text.proofs.WholeLemmas.{entry_is_whole}

@@ -3,9 +3,9 @@ use Rattle.std.specs.Prelude.{nat_lt, ◌==◌}
 use Rattle.std.proofs.lemmas.List.{append-nil}
 use Rattle.std.proofs.lemmas.Bool.{cond-false, eqb-false, ltb-false, ne_eqb, le-ltb}
 use Rattle.std.proofs.lemmas.List.Sums.{sum_by-append}
-use Rattle.zone_text.specs.Bytes.{line_feed}
+use Rattle.zone_token.specs.Bytes.{line_feed}
 use Rattle.naptr_data.specs.Zones.{Labels}
-use Rattle.zone_text.specs.Tokens.{◌>>=◌ as ◌then◌}
+use Rattle.zone_token.specs.Tokens.{◌>>=◌ as ◌then◌}
 use Rattle.zone_text.specs.Meaning.{entry_of}
 use Rattle.zone_text.specs.Zone.{most_bytes, most_records, beginning_with, standing_behind, standing_after, Mean, said_in, statements_of, bytes_of, lines_in, unless_full, entry_within, Say, Break}
 use Rattle.zone_text.specs.Reading.{Read, unread, read_behind, on_line, step, run, ◌>>=◌}
@@ -13,8 +13,8 @@ use Rattle.zone_text.specs.declared.meaning.Standing.{Standing}
 use Rattle.zone_text.specs.declared.meaning.Statement.{Statement}
 use Rattle.zone_text.specs.declared.meaning.Meaning.{Meaning}
 use Rattle.zone_text.specs.declared.meaning.Meaning.TheVariants.{Nothing, Origin, DefaultTtl, Record}
-use Rattle.zone_text.specs.declared.fault.TextWhy.{TextWhy}
-use Rattle.zone_text.specs.declared.fault.TextWhy.TheVariants.{TooMany, TooLarge}
+use Rattle.zone_token.specs.declared.fault.TextWhy.{TextWhy}
+use Rattle.zone_token.specs.declared.fault.TextWhy.TheVariants.{TooMany, TooLarge}
 use Rattle.zone_text.specs.declared.fault.TextFault.{TextFault}
 
 bind-next : (r : Result Read TextFault) (f g : Read → Result Read TextFault) (k : Read → Result Read TextFault) → ((next : Read) → f next ≡ (g next >>= k)) → (r >>= f) ≡ ((r >>= g) >>= k)

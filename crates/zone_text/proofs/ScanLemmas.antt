@@ -1,12 +1,12 @@
 use Rattle.std.proofs.Common.{◌≡◌, ◌∙◌, ℕ, ◌+◌, ◌-◌, ◌<◌, ◌≤◌, List, [], ◌∷◌, ◌++◌, length, get_or, take, drop, true, false, Result, Ok, Err, sym, ap, arith, length-append}
 use Rattle.std.proofs.lemmas.List.{drop_more, take_more, get_or-drop, length-take, length-drop}
 use Rattle.std.proofs.lemmas.Bool.{cond-true, cond-false}
-use Rattle.zone_text.specs.Entries.{beginning, behind, ends_entry, ended_from}
+use Rattle.zone_token.specs.Entries.{beginning, behind, ends_entry, ended_from}
 use Rattle.zone_text.specs.Reading.{Read, read_behind, on_line, run, step, rest_from, ◌>>=◌}
 use Rattle.zone_text.specs.Zone.{entry_within}
 use Rattle.zone_text.specs.declared.meaning.Meaning.{Meaning}
-use Rattle.zone_text.specs.declared.fault.TextWhy.{TextWhy}
-use Rattle.zone_text.specs.declared.spot.Spot.{Spot}
+use Rattle.zone_token.specs.declared.fault.TextWhy.{TextWhy}
+use Rattle.zone_token.specs.declared.spot.Spot.{Spot}
 use Rattle.zone_text.specs.declared.fault.TextFault.{TextFault}
 
 -- the bytes of a text from a place to another

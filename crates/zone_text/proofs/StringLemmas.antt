@@ -1,12 +1,12 @@
 use Rattle.std.proofs.Common.{◌≡◌, ◌∙◌, ℕ, ◌+◌, ◌<◌, ◌≤◌, List, [], ◌∷◌, ◌++◌, length, get_or, drop, Result, Ok, Err, refl, sym, ap, arith, append_assoc}
 use Rattle.std.specs.Option.{ok_or}
 use Rattle.std.proofs.lemmas.List.{append-nil, drop_all, drop_more}
-use Rattle.zone_text.specs.Token.{Token}
-use Rattle.zone_text.specs.Tokens.{◌>>=◌}
-use Rattle.zone_text.specs.Texts.{string_of}
+use Rattle.zone_token.specs.Token.{Token}
+use Rattle.zone_token.specs.Tokens.{◌>>=◌}
+use Rattle.zone_token.specs.Texts.{string_of}
 use Rattle.zone_text.specs.Data.{strings_of}
-use Rattle.zone_text.specs.declared.fault.TextWhy.{TextWhy}
-use Rattle.zone_text.specs.declared.fault.TextWhy.TheVariants.{BadData}
+use Rattle.zone_token.specs.declared.fault.TextWhy.{TextWhy}
+use Rattle.zone_token.specs.declared.fault.TextWhy.TheVariants.{BadData}
 
 -- strings before others, unless these have a fault
 abbrev pub strings_before : List (List ℕ) → Result (List (List ℕ)) TextWhy → Result (List (List ℕ)) TextWhy

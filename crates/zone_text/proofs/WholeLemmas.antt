@@ -5,11 +5,11 @@ use Rattle.std.proofs.lemmas.Bool.{cond_both, lt-ltb}
 use Rattle.naptr_data.specs.Zones.{Labels}
 use Rattle.dns_wire.specs.Kinds.{is_whole}
 use Rattle.dns_wire.specs.declared.content.Content.{Content}
-use Rattle.zone_text.specs.Token.{Token}
-use Rattle.zone_text.specs.Tokens.{◌>>=◌, tokens_of}
-use Rattle.zone_text.specs.Texts.{string_of}
-use Rattle.zone_text.specs.Bytes.{is_blank}
-use Rattle.zone_text.specs.Fields.{name_at, ends_at}
+use Rattle.zone_token.specs.Token.{Token}
+use Rattle.zone_token.specs.Tokens.{◌>>=◌, tokens_of}
+use Rattle.zone_token.specs.Texts.{string_of}
+use Rattle.zone_token.specs.Bytes.{is_blank}
+use Rattle.zone_token.specs.Fields.{name_at, ends_at}
 use Rattle.zone_text.specs.Data.{number_at, a_of, target_of, soa_of, mx_of, strings_of, txt_of, aaaa_of, srv_of, naptr_of, content_of}
 use Rattle.zone_text.specs.Meaning.{head_at, kind_at, ttl_for, statement_of, record_of, origin_of, default_ttl_of, directive_of, is_directive, meaning_of, entry_of, is_whole_meaning}
 use Rattle.zone_text.specs.declared.kind.Kind.{Kind}
@@ -17,8 +17,8 @@ use Rattle.zone_text.specs.declared.kind.Kind.TheVariants as kind
 use Rattle.zone_text.specs.declared.meaning.Standing.{Standing}
 use Rattle.zone_text.specs.declared.meaning.Statement.{Statement}
 use Rattle.zone_text.specs.declared.meaning.Meaning.{Meaning}
-use Rattle.zone_text.specs.declared.fault.TextWhy.{TextWhy}
-use Rattle.zone_text.specs.declared.fault.TextWhy.TheVariants.{BadName, BadData, NoOwner}
+use Rattle.zone_token.specs.declared.fault.TextWhy.{TextWhy}
+use Rattle.zone_token.specs.declared.fault.TextWhy.TheVariants.{BadName, BadData, NoOwner}
 
 -- what is read is whole
 abbrev IsWhole : Content → Type 0

@@ -8,16 +8,16 @@ use Rattle.naptr_data.specs.declared.rule.Naptr.{Naptr}
 use Rattle.dns_wire.specs.declared.content.Soa.{Soa}
 use Rattle.dns_wire.specs.declared.content.Content.{Content}
 use Rattle.dns_wire.specs.declared.content.Content.TheVariants as content
-use Rattle.zone_text.specs.Token.{Token}
-use Rattle.zone_text.specs.Tokens.{◌>>=◌}
-use Rattle.zone_text.specs.Texts.{string_of}
-use Rattle.zone_text.specs.Times.{time_of}
-use Rattle.zone_text.specs.Addresses.{quad_of, address_of}
-use Rattle.zone_text.specs.Fields.{is_word, name_at, bare_at, ends_at}
+use Rattle.zone_token.specs.Token.{Token}
+use Rattle.zone_token.specs.Tokens.{◌>>=◌}
+use Rattle.zone_token.specs.Texts.{string_of}
+use Rattle.zone_token.specs.Times.{time_of}
+use Rattle.zone_token.specs.Addresses.{quad_of, address_of}
+use Rattle.zone_token.specs.Fields.{is_word, name_at, bare_at, ends_at}
 use Rattle.zone_text.specs.declared.kind.Kind.{Kind}
 use Rattle.zone_text.specs.declared.kind.Kind.TheVariants as kind
-use Rattle.zone_text.specs.declared.fault.TextWhy.{TextWhy}
-use Rattle.zone_text.specs.declared.fault.TextWhy.TheVariants.{BadData}
+use Rattle.zone_token.specs.declared.fault.TextWhy.{TextWhy}
+use Rattle.zone_token.specs.declared.fault.TextWhy.TheVariants.{BadData}
 
 -- the type of a word, in any case
 unfoldable pub kind_of_text : List ℕ → Option Kind

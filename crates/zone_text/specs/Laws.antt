@@ -7,8 +7,8 @@ use Rattle.naptr_data.specs.declared.rule.Naptr.{Naptr}
 use Rattle.dns_wire.specs.declared.content.Soa.{Soa}
 use Rattle.dns_wire.specs.declared.content.Content.{Content}
 use Rattle.dns_wire.specs.declared.content.Content.TheVariants as content
-use Rattle.zone_text.specs.Times.{most_seconds}
-use Rattle.zone_text.specs.Tokens.{◌>>=◌, tokens_of}
+use Rattle.zone_token.specs.Times.{most_seconds}
+use Rattle.zone_token.specs.Tokens.{◌>>=◌, tokens_of}
 use Rattle.zone_text.specs.Data.{content_of}
 use Rattle.zone_text.specs.FieldsText.{fields_text}
 use Rattle.zone_text.specs.declared.kind.Kind.{Kind}

@@ -1,17 +1,9 @@
-pub mod Addresses
-pub mod Bytes
 pub mod Data
-pub mod Entries
 pub mod FaultWords
 pub mod Fed
-pub mod Fields
 pub mod FieldsText
 pub mod Laws
 pub mod Meaning
 pub mod Read
 pub mod Reading
-pub mod Texts
-pub mod Times
-pub mod Token
-pub mod Tokens
 pub mod Zone

@@ -6,11 +6,11 @@ use Rattle.naptr_data.specs.Zones.{Labels}
 use Rattle.dns_wire.specs.declared.content.Content.{Content}
 use Rattle.dns_wire.specs.declared.content.Content.TheVariants as content
 use Rattle.dns_wire.specs.Kinds.{is_whole}
-use Rattle.zone_text.specs.Bytes.{dollar, is_blank}
-use Rattle.zone_text.specs.Token.{Token}
-use Rattle.zone_text.specs.Tokens.{◌>>=◌, tokens_of}
-use Rattle.zone_text.specs.Times.{time_of}
-use Rattle.zone_text.specs.Fields.{is_word, name_at, bare_at, ends_at}
+use Rattle.zone_token.specs.Bytes.{dollar, is_blank}
+use Rattle.zone_token.specs.Token.{Token}
+use Rattle.zone_token.specs.Tokens.{◌>>=◌, tokens_of}
+use Rattle.zone_token.specs.Times.{time_of}
+use Rattle.zone_token.specs.Fields.{is_word, name_at, bare_at, ends_at}
 use Rattle.zone_text.specs.Data.{kind_of_text, content_of}
 use Rattle.zone_text.specs.declared.kind.Kind.{Kind}
 use Rattle.zone_text.specs.declared.kind.Kind.TheVariants as kind
@@ -19,8 +19,8 @@ use Rattle.zone_text.specs.declared.meaning.Standing.{Standing}
 use Rattle.zone_text.specs.declared.meaning.Statement.{Statement}
 use Rattle.zone_text.specs.declared.meaning.Meaning.{Meaning}
 use Rattle.zone_text.specs.declared.meaning.Meaning.TheVariants.{Nothing, Origin, DefaultTtl, Record}
-use Rattle.zone_text.specs.declared.fault.TextWhy.{TextWhy}
-use Rattle.zone_text.specs.declared.fault.TextWhy.TheVariants.{BadName, BadTtl, NoTtl, UnknownType, UnknownDirective, NoOwner, WrongClass}
+use Rattle.zone_token.specs.declared.fault.TextWhy.{TextWhy}
+use Rattle.zone_token.specs.declared.fault.TextWhy.TheVariants.{BadName, BadTtl, NoTtl, UnknownType, UnknownDirective, NoOwner, WrongClass}
 
 -- a byte stands at the front of a text
 abbrev pub begins_with : ℕ → List ℕ → Bool

@@ -1,11 +1,11 @@
 -- What was read, as the reader has it.
 use Rattle.std.specs.Prelude.{◌≡◌, ◌≤◌, ℕ, List, length, drop, map, Ok}
 use Rattle.naptr_data.specs.Zones.{Labels}
-use Rattle.zone_text.specs.Entries.{ended_of}
+use Rattle.zone_token.specs.Entries.{ended_of}
 use Rattle.zone_text.specs.Zone.{most_bytes}
 use Rattle.zone_text.specs.Reading.{Read, unread, run, rest_of, said_of}
 use Rattle.zone_text.specs.declared.progress.Progress.{Progress}
-use Rattle.zone_text.specs.declared.spot.Spot.{Spot}
+use Rattle.zone_token.specs.declared.spot.Spot.{Spot}
 
 -- what was read so far
 abbrev pub seen : Progress → Read

@@ -3,13 +3,13 @@ use Rattle.std.specs.Prelude.{ℕ, ◌+◌, List, [], ◌∷◌, ◌++◌, lengt
 use Rattle.naptr_data.specs.Zones.{Labels}
 use Rattle.dns_wire.specs.Kinds.{internet, is_whole, kind_of}
 use Rattle.dns_wire.specs.declared.record.Record as wire
-use Rattle.zone_text.specs.Entries.{beginning, behind, ends_entry}
+use Rattle.zone_token.specs.Entries.{beginning, behind, ends_entry}
 use Rattle.zone_text.specs.Zone.{beginning_with, standing_behind, said_in, lines_in, entry_within}
-use Rattle.zone_text.specs.declared.spot.Spot.{Spot}
+use Rattle.zone_token.specs.declared.spot.Spot.{Spot}
 use Rattle.zone_text.specs.declared.meaning.Standing.{Standing}
 use Rattle.zone_text.specs.declared.meaning.Statement.{Statement}
 use Rattle.zone_text.specs.declared.meaning.Meaning.{Meaning}
-use Rattle.zone_text.specs.declared.fault.TextWhy.{TextWhy}
+use Rattle.zone_token.specs.declared.fault.TextWhy.{TextWhy}
 use Rattle.zone_text.specs.declared.fault.TextFault.{TextFault}
 
 -- what was read of a text: what stands behind its last entry, the line and the byte behind it, and what was stated

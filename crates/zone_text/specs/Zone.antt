@@ -4,16 +4,16 @@ use Rattle.std.specs.List.{flat_map}
 use Rattle.naptr_data.specs.Zones.{Labels}
 use Rattle.dns_wire.specs.Kinds.{internet, is_whole, kind_of}
 use Rattle.dns_wire.specs.declared.record.Record as wire
-use Rattle.zone_text.specs.Bytes.{line_feed}
-use Rattle.zone_text.specs.Entries.{entries_of, ended_of}
-use Rattle.zone_text.specs.Tokens.{◌>>=◌}
+use Rattle.zone_token.specs.Bytes.{line_feed}
+use Rattle.zone_token.specs.Entries.{entries_of, ended_of}
+use Rattle.zone_token.specs.Tokens.{◌>>=◌}
 use Rattle.zone_text.specs.Meaning.{entry_of}
 use Rattle.zone_text.specs.declared.meaning.Standing.{Standing}
 use Rattle.zone_text.specs.declared.meaning.Statement.{Statement}
 use Rattle.zone_text.specs.declared.meaning.Meaning.{Meaning}
 use Rattle.zone_text.specs.declared.meaning.Meaning.TheVariants.{Nothing, Origin, DefaultTtl, Record}
-use Rattle.zone_text.specs.declared.fault.TextWhy.{TextWhy}
-use Rattle.zone_text.specs.declared.fault.TextWhy.TheVariants.{TooMany, TooLarge}
+use Rattle.zone_token.specs.declared.fault.TextWhy.{TextWhy}
+use Rattle.zone_token.specs.declared.fault.TextWhy.TheVariants.{TooMany, TooLarge}
 
 -- the most bytes of a text, and the most records
 abbrev pub most_bytes : ℕ

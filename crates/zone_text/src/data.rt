@@ -1,24 +1,21 @@
 //! The data of the ten types.
-ghost use Rattle.std.specs.Prelude.{◌≡◌, ◌<◌, length, IsTrue, IfOk, Ok};
+ghost use Rattle.std.specs.Prelude.{◌≡◌, ◌<◌, length, IsTrue, IfOk};
 ghost use Rattle.dns_wire.specs.Kinds.{is_whole};
-ghost use Rattle.zone_text.specs.Tokens.{Gives};
-ghost use Rattle.zone_text.specs.Data.{number_at, time_at, quad_at, address_at, string_in, string_at, target_of, a_of, aaaa_of, soa_of, mx_of, strings_of, txt_of, srv_of, naptr_of, content_of};
-ghost use Rattle.zone_text.specs.Texts.{string_of};
+ghost use Rattle.zone_token.specs.Tokens.{Gives};
+ghost use Rattle.zone_text.specs.Data.{number_at, time_at, quad_at, address_at, string_at, target_of, a_of, aaaa_of, soa_of, mx_of, strings_of, txt_of, srv_of, naptr_of, content_of};
+ghost use Rattle.zone_token.specs.Texts.{string_of};
 ghost use Rattle.std.specs.Option.{ok_or};
 
-use crate::addresses::read_address;
-use crate::fault::TextWhy;
-use crate::fields::{bare_at, ends_at, name_at, token_at};
 use crate::kind::Kind;
-use crate::quads::read_quad;
-use crate::texts::read_string;
-use crate::times::read_time;
-use crate::token::Token;
 use dns_name::Name;
 use dns_wire::{Content, Soa, Texts};
 use enum_base::{Text255, read_u16, read_u32};
 use naptr_data::Naptr;
 use std::alloc::Global;
+use zone_token::{
+    TextWhy, Token, bare_at, ends_at, name_at, read_address, read_quad, read_string, read_time,
+    token_at,
+};
 
 // The number of 16 bits at a place.
 #[tactic(auto, unfolding(crate::specs::Data::number_at))]
@@ -221,7 +218,7 @@ fn read_txt(alloc: Global, fields: &[Token]) -> Result<Texts, TextWhy>
 
 /// The content that the data of a type stand for.
 #[tactic(auto, unfolding(crate::specs::Data::content_of))]
-pub fn read_content(
+pub(crate) fn read_content(
     alloc: Global,
     kind: Kind,
     origin: &Name,

@@ -1,22 +1,18 @@
 //! The TTL, the class and the type of a record.
-ghost use Rattle.std.specs.Prelude.{◌≡◌, ◌≤◌, take, codes, IfOk, is_some};
-ghost use Rattle.zone_text.specs.Data.{kind_of_text};
-ghost use Rattle.zone_text.specs.Fields.{is_word};
-ghost use Rattle.zone_text.specs.Meaning.{begins_digit, counted, ttl_in, ttl_at, is_other_class, class_in, class_at, ttl_unless, kind_in, kind_at};
+ghost use Rattle.std.specs.Prelude.{◌≡◌, ◌≤◌, take, codes, IfOk};
+ghost use Rattle.zone_token.specs.Fields.{is_word};
+ghost use Rattle.zone_text.specs.Meaning.{begins_digit, counted, ttl_at, is_other_class, class_at, ttl_unless, kind_at};
 
-use crate::fault::TextWhy;
-use crate::fields::{bare_at, is_word};
 use crate::kind::Kind;
-use crate::times::read_time;
-use crate::token::Token;
+use zone_token::{TextWhy, Token, bare_at, is_word, read_time};
 
 /// What stands before the type.
 #[derive(Clone, Copy, Debug)]
-pub struct Head {
+pub(crate) struct Head {
     /// The stated TTL, in seconds.
-    pub ttl: Option<u32>,
+    pub(crate) ttl: Option<u32>,
     /// The place of the type among the tokens.
-    pub place: usize,
+    pub(crate) place: usize,
 }
 
 // Whether a digit stands at the front.
@@ -98,7 +94,7 @@ impl Head {
 
     /// TTL and class from a place on, each optional, in either order.
     #[tactic(auto, unfolding(crate::specs::Meaning::head_at))]
-    pub fn read(tokens: &[Token], place: usize) -> Result<Head, TextWhy>
+    pub(crate) fn read(tokens: &[Token], place: usize) -> Result<Head, TextWhy>
         requires { place ≤ 1 }
         ensures value { result ≡ head_at tokens.now place }
         ensures within { IfOk result (λ head. head.place ≤ 4) }
@@ -118,7 +114,7 @@ impl Head {
 
 /// The type at a place.
 #[tactic(auto, unfolding(crate::specs::Meaning::kind_at))]
-pub fn kind_at(tokens: &[Token], place: usize) -> Result<Kind, TextWhy>
+pub(crate) fn kind_at(tokens: &[Token], place: usize) -> Result<Kind, TextWhy>
     ensures { result ≡ kind_at tokens.now place }
 {
     let Some(text) = bare_at(tokens, place) else {

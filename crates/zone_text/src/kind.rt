@@ -1,11 +1,11 @@
 //! The ten types of records.
 ghost use Rattle.std.specs.Prelude.{◌≡◌};
 
-use crate::fields::is_word;
+use zone_token::is_word;
 
 /// A type of records that zone texts have.
 #[derive(Clone, Copy, Debug, PartialEq, Eq)]
-pub enum Kind {
+pub(crate) enum Kind {
     A,
     Ns,
     Cname,
@@ -24,7 +24,7 @@ impl Kind {
 
     /// The type of a word, in any case.
     #[tactic(auto, unfolding(crate::specs::Data::kind_of_text))]
-    pub fn read(text: &[u8]) -> Option<Kind>
+    pub(crate) fn read(text: &[u8]) -> Option<Kind>
         ensures { result ≡ kind_of_text text.now }
     {
         if is_word(text, b"A") {
@@ -53,7 +53,7 @@ impl Kind {
     }
 
     /// Whether a TTL may be wanting: an SOA has one of its own.
-    pub fn needs_no_ttl(self) -> bool
+    pub(crate) fn needs_no_ttl(self) -> bool
         ensures { result ≡ needs_no_ttl self }
     {
         self == Kind::Soa

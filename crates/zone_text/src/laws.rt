@@ -4,7 +4,7 @@ ghost use Rattle.naptr_data.specs.Zones.{Labels};
 ghost use Rattle.dns_wire.specs.declared.record.Record.{Record};
 ghost use Rattle.zone_text.specs.Laws.{FieldsAreReadAgain};
 ghost use Rattle.zone_text.specs.Zone.{most_bytes, ZoneSays, ZoneBreaks, BreaksSoFar};
-ghost use Rattle.zone_text.specs.declared.fault.TextWhy.{TextWhy};
+ghost use Rattle.zone_token.specs.declared.fault.TextWhy.{TextWhy};
 
 /// A text that says records does not break.
 pub fn says_or_breaks()

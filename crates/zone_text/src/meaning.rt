@@ -2,36 +2,31 @@
 ghost use Rattle.std.specs.Prelude.{◌≡◌, ◌≤◌, ◌+◌, drop, option_and_then, IsTrue, IfOk};
 ghost use Rattle.dns_wire.specs.Kinds.{is_whole};
 ghost use Rattle.std.specs.Option.{ok_or};
-ghost use Rattle.zone_text.specs.Bytes.{dollar};
-ghost use Rattle.zone_text.specs.Fields.{bare_at};
-ghost use Rattle.zone_text.specs.Times.{time_of};
-ghost use Rattle.zone_text.specs.Tokens.{Gives};
+ghost use Rattle.zone_token.specs.Bytes.{dollar};
+ghost use Rattle.zone_token.specs.Fields.{bare_at};
+ghost use Rattle.zone_token.specs.Times.{time_of};
+ghost use Rattle.zone_token.specs.Tokens.{Gives};
 ghost use Rattle.zone_text.specs.Meaning.{begins_with, origin_of, default_ttl_of, minimum_of, is_directive, is_whole_meaning};
 
-use crate::bytes::is_blank;
 use crate::data::read_content;
-use crate::fault::TextWhy;
-use crate::fields::{bare_at, ends_at, name_at};
 use crate::head::{Head, kind_at};
 use crate::kind::Kind;
-use crate::times::read_time;
-use crate::token::Token;
-use crate::tokens::read_tokens;
 use dns_name::Name;
 use dns_wire::Content;
 use std::alloc::Global;
+use zone_token::{TextWhy, Token, bare_at, ends_at, is_blank, name_at, read_time, read_tokens};
 
 /// What stands before an entry.
 #[derive(Clone, Copy, Debug)]
-pub struct Standing {
+pub(crate) struct Standing {
     /// What relative names end with.
-    pub origin: Name,
+    pub(crate) origin: Name,
     /// The owner of the record before.
-    pub owner: Option<Name>,
+    pub(crate) owner: Option<Name>,
     /// The TTL of the last `$TTL`, in seconds.
-    pub default_ttl: Option<u32>,
+    pub(crate) default_ttl: Option<u32>,
     /// The TTL of the record before, in seconds.
-    pub last_ttl: Option<u32>,
+    pub(crate) last_ttl: Option<u32>,
 }
 
 /// What an entry states: a record of class IN.
@@ -45,7 +40,7 @@ pub struct Statement {
 
 /// What an entry means.
 #[derive(Drop)]
-pub enum Meaning {
+pub(crate) enum Meaning {
     /// It has no token.
     Nothing,
     /// `$ORIGIN` and a name.
@@ -110,7 +105,7 @@ fn minimum_of(content: &Content) -> u32
 }
 
 impl Standing {
-    ghost use Rattle.zone_text.specs.Meaning.{known_ttl, ttl_for, statement_of, record_of, directive_of, meaning_of, entry_of};
+    ghost use Rattle.zone_text.specs.Meaning.{ttl_for, statement_of, record_of, directive_of, meaning_of, entry_of};
 
     // The TTL of a record that states this one or none, unless it takes its own.
     #[tactic(auto, unfolding(crate::specs::Meaning::ttl_for))]
@@ -205,7 +200,7 @@ impl Standing {
 
     /// What an entry means, or its first fault.
     #[tactic(auto, unfolding(crate::specs::Meaning::entry_of))]
-    pub fn read_entry(&self, alloc: Global, entry: &[u8]) -> Result<Meaning, TextWhy>
+    pub(crate) fn read_entry(&self, alloc: Global, entry: &[u8]) -> Result<Meaning, TextWhy>
         ensures value { Gives result (entry_of self.now entry.now) }
         ensures whole { IfOk result (λ meaning. IsTrue (is_whole_meaning meaning)) }
     {

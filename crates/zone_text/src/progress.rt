@@ -1,34 +1,34 @@
 //! What was read of a text.
-ghost use Rattle.std.specs.Prelude.{◌≡◌, ◌≢◌, ◌+◌, ◌==◌, ◌∷◌, [], ◌++◌, ◌≤◌, IsTrue, count_by, length, map, IfErr, OnOk, Ok, Err};
+ghost use Rattle.std.specs.Prelude.{◌≡◌, ◌≢◌, ◌+◌, ◌∷◌, [], ◌++◌, ◌≤◌, IsTrue, length, map, IfErr, OnOk, Ok, Err};
 ghost use Rattle.std.specs.List.{list_all};
 ghost use Rattle.dns_wire.specs.Kinds.{is_whole};
-ghost use Rattle.zone_text.specs.declared.fault.TextWhy.TheVariants.{Memory};
-ghost use Rattle.zone_text.specs.Bytes.{line_feed};
+ghost use Rattle.zone_token.specs.declared.fault.TextWhy.TheVariants.{Memory};
 ghost use Rattle.zone_text.specs.Meaning.{is_whole_meaning};
-ghost use Rattle.zone_text.specs.Zone.{lines_in, most_bytes, most_records, said_in, standing_behind, unless_full};
+ghost use Rattle.zone_text.specs.Zone.{lines_in, most_bytes, said_in, standing_behind, unless_full};
 ghost use Rattle.zone_text.specs.Reading.{is_plain, said_of};
 
-use crate::fault::{TextFault, TextWhy};
+use crate::fault::TextFault;
 use crate::meaning::{Meaning, Standing, Statement};
 use dns_name::Name;
 use dns_wire::{Record, Records};
 use std::alloc::Global;
+use zone_token::TextWhy;
 
 /// The most bytes of a text: 64 MiB.
-pub const MOST_BYTES: usize = 67_108_864;
+pub(crate) const MOST_BYTES: usize = 67_108_864;
 
 // The most records of a text.
 const MOST_RECORDS: usize = 100_000;
 
 /// The entries so far: what stands behind them, where they end, and their records.
 #[derive(Drop)]
-pub struct Progress {
-    pub standing: Standing,
+pub(crate) struct Progress {
+    pub(crate) standing: Standing,
     /// The line behind them, counted from 1.
-    pub line: u32,
+    pub(crate) line: u32,
     /// How many bytes they have.
-    pub size: usize,
-    pub records: Records,
+    pub(crate) size: usize,
+    pub(crate) records: Records,
     ghost within: { size ≤ most_bytes },
     ghost lines: { line ≤ size + 1 },
     ghost plain: { IsTrue (list_all is_plain records) },
@@ -92,12 +92,11 @@ fn append(records: &mut Records, meaning: Meaning) -> Result<(), TextWhy>
 }
 
 impl Progress {
-    ghost use Rattle.zone_text.specs.Meaning.{entry_of};
     ghost use Rattle.zone_text.specs.Read.{seen};
     ghost use Rattle.zone_text.specs.Reading.{unread};
 
     /// No entry yet.
-    pub fn new(alloc: Global, origin: Name) -> Progress
+    pub(crate) fn new(alloc: Global, origin: Name) -> Progress
         ensures { seen result ≡ unread origin }
     {
         Progress {
@@ -134,7 +133,7 @@ impl Progress {
     }
 
     /// One entry more, or its fault with the line on which it begins.
-    pub fn read(&mut self, alloc: Global, entry: &[u8]) -> Result<(), TextFault>
+    pub(crate) fn read(&mut self, alloc: Global, entry: &[u8]) -> Result<(), TextFault>
         ensures ok { OnOk result (step (seen self.old) entry.now ≡ Ok (seen self.new)) }
         ensures err { IfErr result (λ fault. fault.why ≢ Memory → step (seen self.old) entry.now ≡ Err fault) }
     {

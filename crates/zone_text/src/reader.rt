@@ -1,26 +1,26 @@
 //! The reader of zone texts.
 ghost use Rattle.std.specs.Prelude.{◌≡◌, ◌≢◌, ◌++◌, ◌≤◌, [], length, ℕ, List, Some, None, IfOk, IfErr, OnOk};
-ghost use Rattle.zone_text.specs.declared.fault.TextWhy.{TextWhy as Why};
-ghost use Rattle.zone_text.specs.declared.fault.TextWhy.TheVariants.{Memory};
+ghost use Rattle.zone_token.specs.declared.fault.TextWhy.{TextWhy as Why};
+ghost use Rattle.zone_token.specs.declared.fault.TextWhy.TheVariants.{Memory};
 ghost use Rattle.zone_text.specs.declared.fault.TextFault.{TextFault as Told};
 ghost use Rattle.zone_text.specs.Zone.{most_bytes, ZoneSays, ZoneBreaks, BreaksSoFar};
 ghost use Rattle.std.specs.Prelude.{Ok, Err};
 ghost use Rattle.naptr_data.specs.Zones.{Labels};
-ghost use Rattle.zone_text.specs.Entries.{entries_of};
+ghost use Rattle.zone_token.specs.Entries.{entries_of};
 ghost use Rattle.zone_text.specs.Read.{IsReading, seen};
 ghost use Rattle.zone_text.specs.Reading.{run, unread};
-ghost use Rattle.zone_text.specs.declared.spot.Spot.{Spot as Here};
+ghost use Rattle.zone_token.specs.declared.spot.Spot.{Spot as Here};
 
-use crate::fault::{TextFault, TextWhy};
+use crate::fault::TextFault;
 use crate::meaning::Standing;
 use crate::progress::{MOST_BYTES, Progress};
 use crate::scan::read_ended;
-use crate::spot::Spot;
 use dns_name::Name;
 use dns_wire::Records;
 use enum_base::Bytes;
 use std::alloc::Global;
 use std::marker::Model;
+use zone_token::{Spot, TextWhy};
 
 /// Reads a zone text that comes in pieces. After a fault it answers the same fault.
 #[derive(Drop)]

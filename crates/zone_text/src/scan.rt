@@ -1,17 +1,17 @@
 //! The entries of a text that comes in pieces.
 ghost use Rattle.std.specs.Prelude.{◌≡◌, ◌≢◌, ◌-◌, ◌≤◌, length, take, drop, slice_index, ◌<◌, ◌++◌, ◌∷◌, [], IfOk, IfErr, Ok, Err};
-ghost use Rattle.zone_text.specs.declared.fault.TextWhy.TheVariants.{Memory};
-ghost use Rattle.zone_text.specs.Entries.{ended_from};
+ghost use Rattle.zone_token.specs.declared.fault.TextWhy.TheVariants.{Memory};
+ghost use Rattle.zone_token.specs.Entries.{ended_from};
 ghost use Rattle.zone_text.specs.Read.{seen};
 ghost use Rattle.zone_text.specs.Reading.{rest_from, run};
 
 use crate::fault::TextFault;
 use crate::progress::Progress;
-use crate::spot::Spot;
 use std::alloc::Global;
+use zone_token::Spot;
 
 /// Reads the entries that end from a place on, where an entry is begun and leads to a spot; the spot at the end.
-pub fn read_ended(
+pub(crate) fn read_ended(
     alloc: Global,
     text: &[u8],
     at: usize,

@@ -1,11 +1,11 @@
 //! The fields of records as they are written.
-ghost use Rattle.std.specs.Prelude.{◌≡◌, ◌<◌, ◌≤◌, ◌+◌, ◌++◌, length, take, decimal, IsTrue, OnOk, OnErr};
+ghost use Rattle.std.specs.Prelude.{◌≡◌, ◌<◌, ◌≤◌, ◌+◌, ◌++◌, length, take, decimal, is_some, IsTrue, OnOk, OnErr};
 ghost use Rattle.std.specs.Char.{digit_char};
 ghost use Rattle.std.specs.Net.Text.{hex, leading_zero_digits, ipv4_text};
 ghost use Rattle.dns_name.specs.Text.{text_of};
 ghost use Rattle.naptr_data.specs.Text.{quoted};
-ghost use Rattle.dns_wire.specs.Kinds.{is_whole};
 ghost use Rattle.zone_text.specs.FieldsText.{soa_text, mx_text, srv_text, strings_text, aaaa_text, fields_text};
+ghost use Rattle.zone_text.specs.Laws.{type_of};
 
 use dns_name::Name;
 use dns_wire::{Content, Soa};
@@ -14,19 +14,19 @@ use itoa::Buffer as Digits;
 use naptr_data::quoted;
 use std::net::Ipv6Addr;
 
-// Two names of at most 1,024 bytes and five numbers of at most ten digits, each behind a mark: an SOA record has the most.
+// Two names of at most 1,024 bytes and five numbers of at most ten digits, each after a mark: an SOA record has the most.
 type FieldsText = Buffer<2105>;
 
 /// Appends the fields of a record as its line in a zone text has them, with one space between them (RFC 1035, 5.1): numbers
 /// in decimal, times in seconds, names as they stand, character-strings in quotes, an IPv6 address in eight groups of small
 /// hexadecimal digits without leading zeros.
 ///
-/// The content is of one of the ten types.
+/// The content is of one of the ten types, so neither options nor bytes as they stand.
 ///
 /// # Errors
-/// Want of memory; `out` is then as it was.
+/// Out of memory; `out` is then as it was.
 pub fn write_fields(content: &Content, out: &mut Bytes) -> Result<(), MemoryFault>
-    requires { IsTrue (is_whole content.now) }
+    requires { IsTrue (is_some (type_of content.now)) }
     ensures ok { OnOk result (out.new ≡ out.old ++ fields_text content.now) }
     ensures err { OnErr result (out.new ≡ out.old) }
 {
@@ -47,7 +47,7 @@ pub fn write_fields(content: &Content, out: &mut Bytes) -> Result<(), MemoryFaul
     }
 }
 
-// Appends a number behind a mark of at most one byte.
+// Appends a number after a mark of at most one byte.
 fn push_number(text: &mut FieldsText, mark: &[u8], number: u32)
     requires room { length text.old + 11 ≤ 2105 }
     requires mark { length mark.now ≤ 1 }
@@ -59,7 +59,7 @@ fn push_number(text: &mut FieldsText, mark: &[u8], number: u32)
     text.push_slice(digits.format(number).as_bytes());
 }
 
-// Appends a name behind a mark of at most one byte.
+// Appends a name after a mark of at most one byte.
 fn push_name(text: &mut FieldsText, mark: &[u8], name: &Name)
     requires room { length text.old + 1025 ≤ 2105 }
     requires mark { length mark.now ≤ 1 }
@@ -133,7 +133,7 @@ fn aaaa_text(address: &[u8; 16]) -> FieldsText
     text
 }
 
-// Appends a group in small hexadecimal digits without leading zeros, behind a mark of at most one byte.
+// Appends a group in small hexadecimal digits without leading zeros, after a mark of at most one byte.
 #[tactic(auto, unfolding(std::specs::Net::Text::hex))]
 fn push_group(text: &mut FieldsText, mark: &[u8], group: u16)
     requires room { length text.old + 5 ≤ 2105 }
@@ -204,7 +204,7 @@ fn append_strings(strings: &[Text255], out: &mut Bytes) -> Result<(), MemoryFaul
     Ok(())
 }
 
-// Appends a character-string in quotes behind a mark of at most one byte.
+// Appends a character-string in quotes after a mark of at most one byte.
 fn append_string(mark: &[u8], string: &Text255, out: &mut Bytes) -> Result<(), MemoryFault>
     requires { length mark.now ≤ 1 }
     ensures ok { OnOk result (out.new ≡ out.old ++ (mark.now ++ quoted string.now)) }

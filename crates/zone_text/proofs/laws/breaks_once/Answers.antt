@@ -1,4 +1,4 @@
-use Rattle.zone_text.specs.Entries.{entries_of}
+use Rattle.zone_token.specs.Entries.{entries_of}
 use Rattle.zone_text.proofs.RunLemmas.{one_break}
 use Rattle.zone_text.proofs.laws.breaks_once.Goals as goal
 

@@ -1,0 +1,9 @@
+pub mod Addresses
+pub mod Bytes
+pub mod Entries
+pub mod FaultWords
+pub mod Fields
+pub mod Texts
+pub mod Times
+pub mod Token
+pub mod Tokens
