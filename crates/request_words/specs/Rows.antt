@@ -1,5 +1,5 @@
--- The table of commands (this project's own): each row is the first words of a command, how many words follow them, and its
--- options.
+-- The table of commands (this project's own): each row is the first words of a command, how many words follow them, and
+-- its options.
 use Rattle.std.specs.Prelude.{ℕ, List, [], ◌∷◌, map, codes}
 use Rattle.request_words.specs.declared.option.Choice.{Choice}
 use Rattle.request_words.specs.declared.option.OptionName.{OptionName}
