@@ -1,6 +1,7 @@
 -- Objects that were not used.
-use Rattle.std.proofs.Common.{◌≡◌, ℕ, Result, Err, refl, arith}
+use Rattle.std.proofs.Common.{◌≡◌, ℕ, List, Option, Some, None, Result, Err, refl, arith}
 use Rattle.enum_base.specs.Causes.{Blames}
+use Rattle.enum_base.specs.Loading.{AreTaken}
 use Rattle.enum_base.specs.Outside.{ShelfState}
 use Rattle.enum_top.specs.Running.{Does, ReadsShelf}
 use Rattle.enum_top.specs.declared.cause.Cause.{Cause}
@@ -22,3 +23,8 @@ idle_shelf Used One result object shelf d unused = record {
   files = refl;
   blamed = idle Used One result object shelf.faults d unused;
 }
+
+-- .. and nothing is taken of it
+pub none_taken : (most : ℕ) (left : Option (List ℕ)) → AreTaken most left left
+none_taken most None = (0, omega arith, refl)
+none_taken most (Some bytes) = (0, omega arith, refl)

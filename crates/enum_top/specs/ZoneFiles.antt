@@ -1,5 +1,5 @@
--- The zones of the files that the words name (this project's own; what a zone text says is in `zone_text`, what zones are in
--- `zone_db`).
+-- The zones of the files that the words name (this project's own; what a zone text says is in `zone_text`, what zones
+-- are in `zone_db`).
 use Rattle.std.specs.Prelude.{◌≡◌, ◌≢◌, ◌⊎◌, ℕ, List, [], ◌∷◌, ◌++◌, Option, Some, None, Result, Ok, Err}
 use Rattle.dns_wire.specs.declared.record.Record.{Record}
 use Rattle.enum_base.specs.Outside.{File, file_of}

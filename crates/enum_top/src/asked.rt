@@ -15,15 +15,15 @@ use snaptr_app::Domain;
 
 /// The original string of an application, the services that are wanted, and the domain that the walk begins at.
 #[derive(Clone, Copy, Debug)]
-pub struct Asked<'a> {
-    pub string: Text255,
-    pub wanted: Wanted<'a>,
-    pub key: Name,
+pub(crate) struct Asked<'a> {
+    pub(crate) string: Text255,
+    pub(crate) wanted: Wanted<'a>,
+    pub(crate) key: Name,
 }
 
 /// Reads what the words ask: the string, the wanted list, the apex and the domain, of which the first that is
 /// ill-formed is told. Takes no memory.
-pub fn read_asked(
+pub(crate) fn read_asked(
     words: &[String],
     app: AppName,
     string: usize,

@@ -2,7 +2,7 @@
 ghost use Rattle.std.specs.Prelude.{◌≡◌, ◌++◌, codes};
 ghost use Rattle.enum_base.specs.Writing.{Takes};
 ghost use Rattle.request_words.specs.Words.{texts_of};
-ghost use Rattle.enum_top.specs.FaultLines.{cause_line};
+ghost use Rattle.enum_top.specs.FaultLines.{cause_line, file_line};
 
 use dns_name::NameFault;
 use dns_wire::DecodeFault;
@@ -43,82 +43,65 @@ pub enum Cause {
     Message(DecodeFault),
 }
 
+// How the lines begin that go on.
+const STRING: &[u8] = b"enumd: ill-formed string ";
+
+const WANT: &[u8] = b"enumd: ill-formed want ";
+
+const APEX: &[u8] = b"enumd: ill-formed apex ";
+
+const FILE: &[u8] = b"enumd: ill-formed file ";
+
+const TEXT: &[u8] = b"enumd: ill-formed text ";
+
+const ZONE: &[u8] = b"enumd: ill-formed zone ";
+
+const MESSAGE: &[u8] = b"enumd: ill-formed message ";
+
 impl Cause {
     /// Writes the line that tells it, until a write fails. Takes no memory.
-    pub fn tell<E: Sink>(&self, words: &[String], err: &mut E) -> Result<(), Failed>
+    pub(crate) fn tell<E: Sink>(&self, words: &[String], err: &mut E) -> Result<(), Failed>
         ensures { Takes (E.state err.old) (E.state err.new) (cause_line (texts_of words.now) self.now) }
     {
         match self {
-            Cause::Number(fault) => write_three(
-                err,
-                b"enumd: ill-formed string ",
-                fault.words().as_slice(),
-                b"\n",
-            ),
-            Cause::Domain(fault) => write_three(
-                err,
-                b"enumd: ill-formed string ",
-                fault.words().as_slice(),
-                b"\n",
-            ),
-            Cause::Want(fault) => write_three(
-                err,
-                b"enumd: ill-formed want ",
-                fault.words().as_slice(),
-                b"\n",
-            ),
-            Cause::Apex(fault) => write_three(
-                err,
-                b"enumd: ill-formed apex ",
-                fault.words().as_slice(),
-                b"\n",
-            ),
+            Cause::Number(fault) => tell_fault(err, STRING, &fault.words()),
+            Cause::Domain(fault) => tell_fault(err, STRING, &fault.words()),
+            Cause::Want(fault) => tell_fault(err, WANT, &fault.words()),
+            Cause::Apex(fault) => tell_fault(err, APEX, &fault.words()),
             Cause::Key => write_whole(err, b"enumd: ill-formed key NameTooLong\n"),
             Cause::Absent(place) => write_three(
                 err,
-                b"enumd: ill-formed file ",
+                FILE,
                 text_at(words, *place).as_bytes(),
                 b"\n",
             ),
-            Cause::Text { file, fault } => tell_file(
-                err,
-                b"enumd: ill-formed text ",
-                text_at(words, *file),
-                &fault.words(),
-            ),
-            Cause::Zone { file, fault } => tell_file(
-                err,
-                b"enumd: ill-formed zone ",
-                text_at(words, *file),
-                &fault.words(),
-            ),
-            Cause::Set { file, fault } => tell_file(
-                err,
-                b"enumd: ill-formed zone ",
-                text_at(words, *file),
-                &fault.words(),
-            ),
+            Cause::Text { file, fault } => tell_file(err, TEXT, words, *file, &fault.words()),
+            Cause::Zone { file, fault } => tell_file(err, ZONE, words, *file, &fault.words()),
+            Cause::Set { file, fault } => tell_file(err, ZONE, words, *file, &fault.words()),
             Cause::InputTooLarge => write_whole(err, b"enumd: ill-formed input TooLarge\n"),
             Cause::Hex => write_whole(err, b"enumd: ill-formed hex\n"),
-            Cause::Message(fault) => write_three(
-                err,
-                b"enumd: ill-formed message ",
-                fault.words().as_slice(),
-                b"\n",
-            ),
+            Cause::Message(fault) => tell_fault(err, MESSAGE, &fault.words()),
         }
     }
 }
 
-// The line of what a file is.
+// The line of a fault.
+fn tell_fault<E: Sink>(err: &mut E, head: &[u8], fault: &FaultWords) -> Result<(), Failed>
+    ensures { Takes (E.state err.old) (E.state err.new) (head.now ++ fault.now ++ codes "\n") }
+{
+    write_three(err, head, fault.as_slice(), b"\n")
+}
+
+// The line of what a file is, whose name is the word at a place.
 fn tell_file<E: Sink>(
     err: &mut E,
     head: &[u8],
-    name: &str,
+    words: &[String],
+    file: usize,
     fault: &FaultWords,
 ) -> Result<(), Failed>
-    ensures { Takes (E.state err.old) (E.state err.new) (head.now ++ name.now ++ codes " " ++ fault.now ++ codes "\n") }
+    ensures { Takes (E.state err.old) (E.state err.new) (file_line head.now (texts_of words.now) file fault.now) }
 {
-    write_three(err, head, name.as_bytes(), b" ")?;
+    write_three(err, head, text_at(words, file).as_bytes(), b" ")?;
     write_two(err, fault.as_slice(), b"\n")
 }

@@ -2,5 +2,5 @@
 mod resolve;
 mod show;
 
-pub use resolve::resolve_text;
-pub use show::show_text;
+pub(crate) use resolve::resolve_text;
+pub(crate) use show::show_text;

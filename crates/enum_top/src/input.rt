@@ -16,7 +16,10 @@ use std::alloc::Global;
 const MOST: usize = 16 * 1024 * 1024;
 
 /// Reads the input to its end, which may have at most 16 MiB. At most 4,096 bytes more are taken of it.
-pub fn read_input<I: Source>(alloc: Global, input: &mut I) -> Result<Bytes, Refusal>
+///
+/// # Errors
+/// `IllFormed` where it has more, `Outside` where it failed, and `Memory`.
+pub(crate) fn read_input<I: Source>(alloc: Global, input: &mut I) -> Result<Bytes, Refusal>
     ensures does { DoesOnInput (Inputs (I.state input.old).left) result }
     ensures input { Blames (I.state input.old).faults (I.state input.new).faults (IsErrOf result (refusal.Outside Object.Input)) }
     ensures taken { ¬ IsErrOf result (refusal.Outside Object.Input)

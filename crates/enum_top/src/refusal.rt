@@ -11,7 +11,7 @@ use enum_base::{Failed, MemoryFault, Sink, write_whole};
 
 /// Why a run ends without a text.
 #[derive(Clone, Copy, Debug, PartialEq, Eq)]
-pub enum Refusal {
+pub(crate) enum Refusal {
     /// The words are no request.
     Usage,
     IllFormed(Cause),
@@ -38,7 +38,7 @@ impl From<Cause> for Refusal {
 
 impl Refusal {
     /// Writes the line that tells it, until a write fails. Takes no memory.
-    pub fn tell<E: Sink>(&self, words: &[String], err: &mut E) -> Result<(), Failed>
+    pub(crate) fn tell<E: Sink>(&self, words: &[String], err: &mut E) -> Result<(), Failed>
         ensures { Takes (E.state err.old) (E.state err.new) (line_of (texts_of words.now) self.now) }
     {
         match self {

@@ -29,15 +29,15 @@ pub enum Ending {
 
 /// The whole text of a command, and what it comes to.
 #[derive(Drop)]
-pub struct Printed {
-    pub ending: Ending,
-    pub text: Bytes,
+pub(crate) struct Printed {
+    pub(crate) ending: Ending,
+    pub(crate) text: Bytes,
 }
 
 /// How a run ended.
 #[derive(Clone, Copy, Debug, PartialEq, Eq)]
 pub enum Status {
-    /// The job was done: the report was printed, and it has an end or more; or the message was printed.
+    /// The text was printed: a report that has an end or more, or a message.
     Done,
     /// The report was printed, and it has no end.
     Nothing,
@@ -51,7 +51,7 @@ pub enum Status {
     Loop,
     /// A call of this object failed.
     Outside(Object),
-    /// Memory was wanting.
+    /// Memory was out.
     Memory,
 }
 
@@ -74,7 +74,7 @@ impl Status {
 
 impl Ending {
     /// The status of a text that was printed whole.
-    pub fn status(self) -> Status
+    pub(crate) fn status(self) -> Status
         ensures { result ≡ status_of self }
     {
         match self {
@@ -87,7 +87,7 @@ impl Ending {
 
 impl Refusal {
     /// The status that a refusal ends with.
-    pub fn status(&self) -> Status
+    pub(crate) fn status(&self) -> Status
         ensures { result ≡ ended_as self.now }
     {
         match self {

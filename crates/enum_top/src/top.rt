@@ -1,12 +1,14 @@
 //! The top call.
-ghost use Rattle.std.specs.Prelude.{◌≡◌, ◌↔◌, ◌⊎◌, ℕ, List, take, IsErrOf};
+ghost use Rattle.std.specs.Prelude.{◌≡◌, ◌↔◌, ◌⊎◌, ℕ, ◌+◌, List, take, IsErrOf};
 ghost use Rattle.enum_base.specs.Causes.{Blames, Rose};
+ghost use Rattle.enum_base.specs.Loading.{AreTaken};
 ghost use Rattle.enum_base.specs.Writing.{Gains, Takes};
 ghost use Rattle.request_words.specs.Words.{IsRequest, Means, texts_of};
 ghost use Rattle.request_words.specs.declared.request.Request.{Request};
 ghost use Rattle.enum_top.specs.Answers.{Answers, AreTold, Breaks, ComesTo, IsText, Leaves, Need, Uses};
 ghost use Rattle.enum_top.specs.Endings.{IsPlain, ended_as, status_of};
 ghost use Rattle.enum_top.specs.FaultLines.{cause_line, line_of};
+ghost use Rattle.enum_top.specs.Inputs.{most_input};
 ghost use Rattle.enum_top.specs.Running.{Does, EndsWith, Ends, Keeps, ReadsShelf, Runs};
 ghost use Rattle.enum_top.specs.Verdicts.{Verdict, told_by, whole};
 ghost use Rattle.enum_top.specs.Verdicts.Verdict.{prints, refuses};
@@ -24,8 +26,8 @@ use request_words::{Origin, Request, read_words};
 use std::alloc::Global;
 
 /// Does what the words ask for, and says how it ended. `words` leaves out the program's own name. Files are read from
-/// `shelf`, and a message from `input`; the text goes to `out`, and after a refusal one line to `err`. A failure of `err`
-/// changes nothing else.
+/// `shelf`, and a message from `input`; the text goes to `out`, and after a refusal one line to `err`. A failure of
+/// `err` changes nothing else.
 pub fn run<S: Shelf, I: Source, O: Sink, E: Sink>(
     alloc: Global,
     words: &[String],
@@ -39,7 +41,8 @@ pub fn run<S: Shelf, I: Source, O: Sink, E: Sink>(
     ensures early { (request : Request) (cause : Cause) → Means (texts_of words.now) request → Breaks (texts_of words.now) request cause
         → (result ≡ Status.IllFormed) × Takes (E.state err.old) (E.state err.new) (cause_line (texts_of words.now) cause) }
 
-    // Only where: what was printed, or why not, is what the request comes to, whether the objects tell what they hold or not.
+    // Only where: what was printed, or why not, is what the request comes to, whether the objects tell what they hold
+    // or not.
     ensures printed { (ending : Ending) → result ≡ status_of ending
         → (text : List ℕ) × ComesTo (told_by (S.state shelf.old) (I.state input.old)) (texts_of words.now) (prints ending text)
         × Gains (O.state out.old) (O.state out.new) text }
@@ -72,6 +75,8 @@ pub fn run<S: Shelf, I: Source, O: Sink, E: Sink>(
     ensures output { Blames (O.state out.old).faults (O.state out.new).faults (result ≡ Status.Outside Object.Output) }
     ensures unused_shelf { ¬ Need (texts_of words.now) Object.Shelf → shelf.new ≡ shelf.old }
     ensures unused_input { ¬ Need (texts_of words.now) Object.Input → input.new ≡ input.old }
+    ensures taken { ¬ (result ≡ Status.Outside Object.Input)
+        → AreTaken (most_input + 4096) (I.state input.old).left (I.state input.new).left }
 
     // What the output holds otherwise.
     ensures kept { (why : Refusal) → Keeps why → result ≡ ended_as why
@@ -87,11 +92,11 @@ pub fn run<S: Shelf, I: Source, O: Sink, E: Sink>(
         → Takes (E.state err.old) (E.state err.new) (line_of (texts_of words.now) why) }
 {
     one_verdict();
-    perform(alloc, words, shelf, input, out, err)
+    run_inner(alloc, words, shelf, input, out, err)
 }
 
 // The same, with one clause on how the answer comes.
-fn perform<S: Shelf, I: Source, O: Sink, E: Sink>(
+fn run_inner<S: Shelf, I: Source, O: Sink, E: Sink>(
     alloc: Global,
     words: &[String],
     shelf: &mut S,
@@ -106,6 +111,8 @@ fn perform<S: Shelf, I: Source, O: Sink, E: Sink>(
     ensures output { Blames (O.state out.old).faults (O.state out.new).faults (result ≡ Status.Outside Object.Output) }
     ensures unused_shelf { ¬ Need (texts_of words.now) Object.Shelf → shelf.new ≡ shelf.old }
     ensures unused_input { ¬ Need (texts_of words.now) Object.Input → input.new ≡ input.old }
+    ensures taken { ¬ (result ≡ Status.Outside Object.Input)
+        → AreTaken (most_input + 4096) (I.state input.old).left (I.state input.new).left }
 {
     match answer(alloc, words, shelf, input, out) {
         Ok(ending) => ending.status(),
@@ -117,6 +124,7 @@ fn perform<S: Shelf, I: Source, O: Sink, E: Sink>(
 }
 
 // What a run does, up to the line that tells a refusal.
+#[tactic(auto, using(crate::proofs::Idle::none_taken))]
 fn answer<S: Shelf, I: Source, O: Sink>(
     alloc: Global,
     words: &[String],
@@ -130,6 +138,8 @@ fn answer<S: Shelf, I: Source, O: Sink>(
     ensures output { Blames (O.state out.old).faults (O.state out.new).faults (IsErrOf result (refusal.Outside Object.Output)) }
     ensures unused_shelf { ¬ Need (texts_of words.now) Object.Shelf → shelf.new ≡ shelf.old }
     ensures unused_input { ¬ Need (texts_of words.now) Object.Input → input.new ≡ input.old }
+    ensures taken { ¬ IsErrOf result (refusal.Outside Object.Input)
+        → AreTaken (most_input + 4096) (I.state input.old).left (I.state input.new).left }
 {
     match read_words(words) {
         Ok(request) => print(alloc, words, &request, shelf, input, out),
@@ -153,6 +163,8 @@ fn print<S: Shelf, I: Source, O: Sink>(
     ensures output { Blames (O.state out.old).faults (O.state out.new).faults (IsErrOf result (refusal.Outside Object.Output)) }
     ensures unused_shelf { ¬ Uses request.now Object.Shelf → shelf.new ≡ shelf.old }
     ensures unused_input { ¬ Uses request.now Object.Input → input.new ≡ input.old }
+    ensures taken { ¬ IsErrOf result (refusal.Outside Object.Input)
+        → AreTaken (most_input + 4096) (I.state input.old).left (I.state input.new).left }
 {
     let printed = text_of(alloc, words, request, shelf, input)?;
     match write_whole(out, printed.text.as_slice()) {
@@ -162,7 +174,7 @@ fn print<S: Shelf, I: Source, O: Sink>(
 }
 
 // The text of a request.
-#[tactic(auto, using(crate::proofs::Idle::idle, crate::proofs::Idle::idle_shelf))]
+#[tactic(auto, using(crate::proofs::Idle::idle, crate::proofs::Idle::idle_shelf, crate::proofs::Idle::none_taken))]
 fn text_of<S: Shelf, I: Source>(
     alloc: Global,
     words: &[String],
@@ -176,6 +188,8 @@ fn text_of<S: Shelf, I: Source>(
     ensures input { Blames (I.state input.old).faults (I.state input.new).faults (IsErrOf result (refusal.Outside Object.Input)) }
     ensures unused_shelf { ¬ Uses request.now Object.Shelf → shelf.new ≡ shelf.old }
     ensures unused_input { ¬ Uses request.now Object.Input → input.new ≡ input.old }
+    ensures taken { ¬ IsErrOf result (refusal.Outside Object.Input)
+        → AreTaken (most_input + 4096) (I.state input.old).left (I.state input.new).left }
 {
     match request {
         Request::Resolve {

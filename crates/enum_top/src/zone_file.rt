@@ -21,9 +21,9 @@ use zone_text::{TextFault, TextWhy, ZoneReader, broken_stays_broken};
 // How many bytes are read at once.
 const PIECE: usize = 4096;
 
-/// Reads the records of the file whose name is the word at `place`. Relative names end at the root (RFC 1035, 5.1). Of a
-/// file at most 64 MiB and 4,096 bytes are read; reading stops where the text breaks.
-pub fn read_text<S: Shelf>(
+/// Reads the records of the file whose name is the word at `place`. Relative names end at the root (RFC 1035, 5.1). Of
+/// a file at most 64 MiB and 4,096 bytes are read; reading stops where the text breaks.
+pub(crate) fn read_text<S: Shelf>(
     alloc: Global,
     words: &[String],
     place: usize,

@@ -16,9 +16,9 @@ use enum_base::Shelf;
 use std::alloc::Global;
 use zone_db::{AddFault, Zone, ZoneFault, ZoneSet};
 
-/// Reads the files whose names are the words at these places, one after another. The first that is not there, whose text
-/// breaks, whose records make no zone, or whose zone does not go to those before it stops it.
-pub fn read_zones<S: Shelf>(
+/// Reads the files whose names are the words at these places, one after another. The first that is not there, whose
+/// text breaks, whose records make no zone, or whose zone does not go to those before it stops it.
+pub(crate) fn read_zones<S: Shelf>(
     alloc: Global,
     words: &[String],
     places: &[usize],

@@ -7,7 +7,7 @@ use std::marker::Model;
 
 /// How many calls of an object failed; it stays at its greatest value.
 #[derive(Drop)]
-pub struct Faults {
+pub(crate) struct Faults {
     count: u64,
 }
 
@@ -21,21 +21,21 @@ impl Model for Faults {
 
 impl Faults {
     /// None.
-    pub fn none() -> Faults
+    pub(crate) fn none() -> Faults
         ensures { result ≡ 0 }
     {
         Faults { count: 0 }
     }
 
     /// How many.
-    pub fn count(&self) -> u64
+    pub(crate) fn count(&self) -> u64
         ensures { result ≡ self.now }
     {
         self.count
     }
 
     /// Counts one more.
-    pub fn raise(&mut self) -> Failed
+    pub(crate) fn raise(&mut self) -> Failed
         ensures raised { self.new ≡ one_more self.old }
         ensures later { self.old ≤ self.new }
     {

@@ -11,7 +11,7 @@ use std::rt::Files;
 /// Files by their paths. It tells nothing of what they hold, and contracts see it as its count of
 /// faults, which rises at each error.
 #[derive(Drop)]
-pub struct FileShelf<'a, R: Files> {
+pub(crate) struct FileShelf<'a, R: Files> {
     runtime: &'a R,
     open: Option<R::File>,
     faults: Faults,
@@ -27,7 +27,7 @@ impl<'a, R: Files> Model for FileShelf<'a, R> {
 
 impl<'a, R: Files> FileShelf<'a, R> {
     /// A shelf with no file open and no fault counted.
-    pub fn new(runtime: &'a R) -> Self
+    pub(crate) fn new(runtime: &'a R) -> Self
         ensures { result ≡ 0 }
     {
         FileShelf {

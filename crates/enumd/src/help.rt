@@ -1,7 +1,7 @@
 //! What the program says of itself.
 
 /// The commands with their options, and the exit statuses.
-pub const HELP: &str = "\
+pub(crate) const HELP: &str = "\
 usage: enumd resolve enum NUMBER --zones FILE [options]
        enumd resolve snaptr DOMAIN --zones FILE [options]
        enumd resolve unaptr DOMAIN --zones FILE [options]
@@ -43,4 +43,4 @@ Exit statuses:
 ";
 
 /// The program's name and version.
-pub const VERSION: &str = "enumd 0.1.0\n";
+pub(crate) const VERSION: &str = "enumd 0.1.0\n";

@@ -9,7 +9,7 @@ use std::marker::Model;
 /// A writer. It tells nothing of what it holds, and contracts see it as its count of faults, which
 /// rises at each error.
 #[derive(Drop)]
-pub struct StdSink<W: Write + Drop> {
+pub(crate) struct StdSink<W: Write + Drop> {
     writer: W,
     faults: Faults,
 }
@@ -24,7 +24,7 @@ impl<W: Write + Drop> Model for StdSink<W> {
 
 impl<W: Write + Drop> StdSink<W> {
     /// A sink with no fault counted.
-    pub fn new(writer: W) -> Self
+    pub(crate) fn new(writer: W) -> Self
         ensures { result ≡ 0 }
     {
         StdSink {

@@ -8,7 +8,7 @@ use std::marker::Model;
 
 /// A reader. It tells nothing of what it gives, and contracts see it as its count of faults, which rises at each error.
 #[derive(Drop)]
-pub struct StdSource<R: Read + Drop> {
+pub(crate) struct StdSource<R: Read + Drop> {
     reader: R,
     faults: Faults,
 }
@@ -23,7 +23,7 @@ impl<R: Read + Drop> Model for StdSource<R> {
 
 impl<R: Read + Drop> StdSource<R> {
     /// A source with no fault counted.
-    pub fn new(reader: R) -> Self
+    pub(crate) fn new(reader: R) -> Self
         ensures { result ≡ 0 }
     {
         StdSource {

@@ -1,4 +1,5 @@
--- The lines of a message as it is shown (this project's own). The sections of a message are those of RFC 1035, section 4.1.
+-- The lines of a message as it is shown (this project's own). The sections of a message are those of RFC 1035, section
+-- 4.1.
 use Rattle.std.specs.Prelude.{ℕ, ◌==◌, if◌then◌else◌, List, [], ◌∷◌, ◌++◌, length, codes, decimal}
 use Rattle.std.specs.List.{flat_map}
 use Rattle.std.specs.Int.{w16, to_be_bytes}
@@ -13,7 +14,7 @@ use Rattle.dns_wire.specs.declared.question.Question.{Question}
 use Rattle.dns_wire.specs.declared.record.Record.{Record}
 use Rattle.zone_text.specs.FieldsText.{fields_text}
 
--- the word of a type: its name, or its number behind `TYPE` (RFC 3597, section 5)
+-- the word of a type: its name, or its number after `TYPE` (RFC 3597, section 5)
 abbrev pub kind_text : ℕ → List ℕ
 kind_text kind =
     if kind == a then codes "A"
@@ -58,7 +59,7 @@ abbrev pub question_line : Question → List ℕ
 question_line question =
     codes "question " ++ text_of (folded_labels question.name) ++ codes " " ++ kind_text question.kind ++ codes " " ++ decimal question.class ++ codes "\n"
 
--- the line of a record behind the word of its section: its folded owner, TTL, class, type, and what it says
+-- the line of a record after the word of its section: its folded owner, TTL, class, type, and what it says
 abbrev pub record_line : List ℕ → Record → List ℕ
 record_line word one =
     word ++ codes " " ++ text_of (folded_labels one.owner) ++ codes " " ++ decimal one.ttl ++ codes " " ++ decimal one.class ++ codes " " ++ kind_text one.kind ++ codes " " ++ content_text one.content ++ codes "\n"

@@ -4,8 +4,8 @@ ghost use Rattle.message_text.specs.Shown.{kind_text};
 
 use enum_base::{Bytes, MemoryFault, push_number};
 
-/// Appends the name of a type, or its number behind `TYPE` (RFC 3597, section 5).
-pub fn push_kind(kind: u16, out: &mut Bytes) -> Result<(), MemoryFault>
+/// Appends the name of a type, or its number after `TYPE` (RFC 3597, section 5).
+pub(crate) fn push_kind(kind: u16, out: &mut Bytes) -> Result<(), MemoryFault>
     ensures { OnOk result (out.new ≡ out.old ++ kind_text kind) }
 {
     match kind {

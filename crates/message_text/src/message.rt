@@ -11,15 +11,15 @@ use enum_base::{Bytes, MemoryFault, push_number};
 use std::alloc::Global;
 use zone_text::write_fields;
 
-/// The lines of a message: `message`, its id, its bits in four hexadecimal digits and its four counts; `question`, name,
-/// type and class of each question; and of each record `answer`, `authority` or `additional`, owner, TTL, class, type and
-/// fields.
+/// The lines of a message: `message`, its id, its bits in four hexadecimal digits and its four counts; `question`,
+/// name, type and class of each question; and of each record `answer`, `authority` or `additional`, owner, TTL, class,
+/// type and fields.
 ///
-/// Owners and names of questions are folded. A type is one of the ten names, `OPT`, or `TYPE` and its number. Fields are those
-/// of a zone text; options, and RDATA that is not read, are in hexadecimal digits, `-` where there are none.
+/// Owners and names of questions are folded. A type is one of the ten names, `OPT`, or `TYPE` and its number. Fields
+/// are those of a zone text; options, and RDATA that is not read, are in hexadecimal digits, `-` where there are none.
 ///
 /// # Errors
-/// Want of memory.
+/// `MemoryFault` where memory is out.
 pub fn print_message(alloc: Global, message: &Message) -> Result<Bytes, MemoryFault>
     ensures { IfOk result (λ text. text ≡ shown message.now) }
 {

@@ -16,6 +16,6 @@ pub no_more_edges : (out whole : List ℕ) (ranks : List ℕ) (domains : List La
 no_more_edges out whole ranks domains few is =
     sym (append-nil out) ∙ ap (λ ls. out ++ ls) (sym (no_edges ranks domains few)) ∙ is
 
--- a list with less than one element behind its first
+-- a list with less than one element after its first
 pub one_domain : (domains : List Labels) → length (take (length domains - 1) (drop 1 domains)) < 1 → length domains < 2
 one_domain domains few = grind (arith, common_steps)

@@ -16,7 +16,8 @@ abbrev pub path_text : List ℕ → List ℕ
 path_text [] = codes "-"
 path_text (first ∷ ranks) = decimal first ++ flat_map (λ rank. codes "." ++ decimal rank) ranks
 
--- the first word of an end's line: a URI, a target under the letter `s`, one under another letter, or a domain that nobody serves
+-- the first word of an end's line: a URI, a target under the letter `s`, one under another letter, or a domain that
+-- nobody serves
 abbrev pub word_of : Outcome → List ℕ
 word_of (Uri bytes) = codes "uri"
 word_of (Target letter name) = if letter == 115 then codes "srv" else codes "addr"

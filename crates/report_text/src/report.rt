@@ -9,6 +9,9 @@ use naptr_data::Naptr;
 use std::alloc::Global;
 
 /// The printed report: a line for each end, or a loop with its edges, and last the number of ends.
+///
+/// # Errors
+/// `MemoryFault` where memory is out.
 pub fn print_report(alloc: Global, report: &Report) -> Result<Bytes, MemoryFault>
     ensures { IfOk result (λ text. text ≡ printed report.now) }
 {
@@ -106,7 +109,7 @@ fn push_path(ranks: &[u32], out: &mut Bytes) -> Result<(), MemoryFault>
     push_ranks(rest, out)
 }
 
-// Each rank behind a dot.
+// Each rank after a dot.
 fn push_ranks(ranks: &[u32], out: &mut Bytes) -> Result<(), MemoryFault>
     ensures { OnOk result (out.new ≡ out.old ++ flat_map (λ rank. codes "." ++ decimal rank) ranks.now) }
 {

@@ -1,2 +1,4 @@
-pub mod PlaceLemmas
+mod OptionLemmas
+mod PlaceLemmas
 pub mod ReadingLemmas
+mod RowLemmas

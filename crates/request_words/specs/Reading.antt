@@ -1,16 +1,17 @@
--- A plain reading of words from left to right. That it reads exactly what `Words` defines is proved.
-use Rattle.std.specs.Prelude.{ℕ, ◌+◌, ◌==◌, ◌&&◌, Bool, true, false, nat_le, nat_lt, List, [], ◌∷◌, length, take, get_or, slice_set, codes, bytes_eq, if◌then◌else◌, Option, Some, None, option_and_then}
+-- A plain reading of words by the table. That it reads exactly what `Words` defines is proved.
+use Rattle.std.specs.Prelude.{ℕ, ◌+◌, ◌==◌, ◌&&◌, Bool, true, false, nat_le, nat_lt, List, [], ◌∷◌, length, map, zip, find, take, drop, get_or, slice_set, bytes_eq, if◌then◌else◌, Option, Some, None, option_map}
 use Rattle.std.specs.List.{list_any, list_all}
 use Rattle.enum_base.specs.Padding.{padded}
-use Rattle.request_words.specs.Rows.{option_word, app_word, resolve_choices}
+use Rattle.request_words.specs.Rows.{Entry, Row, option_word, table}
 use Rattle.request_words.specs.declared.option.Choice.{Choice}
 use Rattle.request_words.specs.declared.option.OptionName.TheVariants.{Want, Apex, Zones}
 use Rattle.request_words.specs.declared.places.Places.{Places}
-use Rattle.request_words.specs.declared.request.AppName.{AppName}
-use Rattle.request_words.specs.declared.request.AppName.TheVariants.{Enum, Snaptr, Unaptr}
 use Rattle.request_words.specs.declared.request.Origin.TheVariants.{Files}
 use Rattle.request_words.specs.declared.request.Request.{Request}
 use Rattle.request_words.specs.declared.request.Request.TheVariants.{Resolve, Show}
+use Rattle.request_words.specs.declared.row.Command.{Command}
+use Rattle.request_words.specs.declared.row.Command.TheVariants as command
+use Rattle.request_words.specs.declared.row.Row as coded
 
 -- the places of the values of one option among words that are options with their values
 abbrev pub places_in : List ℕ → ℕ → List (List ℕ) → List ℕ
@@ -56,36 +57,38 @@ with_value places word option place = if bytes_eq word option then with_place pl
 abbrev pub first_of : Places → Option ℕ
 first_of places = if places.count == 0 then None else Some (get_or places.at 0 0)
 
--- the options of `resolve`
-unfoldable pub resolve_options_in : AppName → List (List ℕ) → Option Request
-resolve_options_in app options =
-    if are_chosen (resolve_choices app) options
-    then Some (Resolve app 2 (first_of (places_from (places_in (option_word Want) 4 options))) (first_of (places_from (places_in (option_word Apex) 4 options))) (Files (places_from (places_in (option_word Zones) 4 options))))
-    else None
+-- the request of a command, whose options are these words
+abbrev pub request_of : Command → List (List ℕ) → Request
+request_of (command.Resolve app) options =
+    Resolve app 2 (first_of (places_from (places_in (option_word Want) 4 options))) (first_of (places_from (places_in (option_word Apex) 4 options))) (Files (places_from (places_in (option_word Zones) 4 options)))
+request_of command.Show options = Show
 
--- the application of a word
-abbrev pub app_in : List ℕ → Option AppName
-app_in word =
-    if bytes_eq word (app_word Enum) then Some Enum
-    else if bytes_eq word (app_word Snaptr) then Some Snaptr
-    else if bytes_eq word (app_word Unaptr) then Some Unaptr
-    else None
+-- a row of the code
+abbrev pub entry_in : coded.Row → Entry
+entry_in row = record {
+  command = row.command;
+  row = record { heads = map (λ head. head.now) row.heads.now; arguments = row.arguments; choices = row.choices.now };
+}
 
--- the words behind `resolve`
-unfoldable pub resolve_in : List (List ℕ) → Option Request
-resolve_in [] = None
-resolve_in (application ∷ []) = None
-resolve_in (application ∷ string ∷ options) = option_and_then (λ app. resolve_options_in app options) (app_in application)
+-- how many words a row has before its options
+abbrev pub size_of : Row → ℕ
+size_of row = length row.heads + row.arguments
 
--- the words behind `show`
-unfoldable pub show_in : List (List ℕ) → Option Request
-show_in [] = Some Show
-show_in (word ∷ rest) = None
+-- the words of the options
+abbrev pub options_in : Row → List (List ℕ) → List (List ℕ)
+options_in row words = drop (size_of row) words
+
+-- the words begin with these, which are no more than they
+abbrev pub begin_with : List (List ℕ) → List (List ℕ) → Bool
+begin_with heads words = list_all (λ pair. bytes_eq pair.1 pair.0) (zip heads words)
+
+-- the words are those of a row
+abbrev pub fits : List (List ℕ) → Entry → Bool
+fits words entry =
+    nat_le (size_of entry.row) (length words) && begin_with entry.row.heads words
+    && are_chosen entry.row.choices (options_in entry.row words)
 
 -- the request of words
-unfoldable pub request_in : List (List ℕ) → Option Request
-request_in [] = None
-request_in (command ∷ rest) =
-    if bytes_eq command (codes "resolve") then resolve_in rest
-    else if bytes_eq command (codes "show") then show_in rest
-    else None
+abbrev pub request_in : List (List ℕ) → Option Request
+request_in words =
+    option_map (λ entry. request_of entry.command (options_in entry.row words)) (find (fits words) table)

@@ -1,11 +1,13 @@
--- The table of commands (this project's own): each row is the first words of a command, how many words follow them, and its
--- options.
-use Rattle.std.specs.Prelude.{ℕ, List, [], ◌∷◌, codes}
+-- The table of commands (this project's own): each row is the first words of a command, how many words follow them, and
+-- its options.
+use Rattle.std.specs.Prelude.{ℕ, List, [], ◌∷◌, map, codes}
 use Rattle.request_words.specs.declared.option.Choice.{Choice}
 use Rattle.request_words.specs.declared.option.OptionName.{OptionName}
 use Rattle.request_words.specs.declared.option.OptionName.TheVariants.{Want, Apex, Zones}
 use Rattle.request_words.specs.declared.request.AppName.{AppName}
 use Rattle.request_words.specs.declared.request.AppName.TheVariants.{Enum, Snaptr, Unaptr}
+use Rattle.request_words.specs.declared.row.Command.{Command}
+use Rattle.request_words.specs.declared.row.Command.TheVariants.{Resolve, Show}
 
 -- a row of the table
 pub record Row : Type 0 where
@@ -48,3 +50,24 @@ resolve_row app = record { heads = codes "resolve" ∷ app_word app ∷ []; argu
 -- `show`
 abbrev pub show_row : Row
 show_row = record { heads = codes "show" ∷ []; arguments = 0; choices = [] }
+
+-- the row of a command
+abbrev pub row_of : Command → Row
+row_of (Resolve app) = resolve_row app
+row_of Show = show_row
+
+-- a row with its command
+pub record Entry : Type 0 where
+  pub command : Command
+  pub row : Row
+
+abbrev pub entry_of : Command → Entry
+entry_of command = record { command = command; row = row_of command }
+
+-- the commands
+abbrev pub commands : List Command
+commands = Resolve Enum ∷ Resolve Snaptr ∷ Resolve Unaptr ∷ Show ∷ []
+
+-- the table
+abbrev pub table : List Entry
+table = map entry_of commands

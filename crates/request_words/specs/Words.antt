@@ -60,7 +60,8 @@ pub record ArePlaces (places : Places) (values : List ℕ) : Type 0 where
   pub cells : places.at ≡ padded 64 values
   pub most : length values ≤ 64
 
--- the words are `resolve`, the application's name, a string and options: the string is word 2, the first value may be word 4
+-- the words are `resolve`, the application's name, a string and options: the string is word 2, the first value may be
+-- word 4
 pub record MeansResolve (app : AppName) (words : List (List ℕ)) (string : ℕ) (want apex : Option ℕ) (zones : Places) : Type 0 where
   pub given : List Given
   pub spelled : IsSpelled (resolve_row app) words given

@@ -5,10 +5,10 @@ mod laws;
 mod option;
 mod places;
 mod request;
+mod row;
 mod words;
 
 pub use laws::one_request;
-pub use option::{Choice, OptionName};
 pub use places::Places;
 pub use request::{AppName, Origin, Request};
 pub use words::{Usage, read_words, text_at};

@@ -1,12 +1,10 @@
-//! Options of commands: the rows of the table, as data.
+//! Options of commands.
 ghost use Rattle.std.specs.Prelude.{◌≡◌};
-ghost use Rattle.request_words.specs.Rows.{option_word, resolve_choices};
-
-use crate::request::AppName;
+ghost use Rattle.request_words.specs.Rows.{option_word};
 
 /// An option, whose value is the word after it.
 #[derive(Clone, Copy, Debug, PartialEq, Eq)]
-pub enum OptionName {
+pub(crate) enum OptionName {
     /// `--want LIST`: which services are wanted.
     Want,
     /// `--apex NAME`: the domain that numbers stand under.
@@ -17,7 +15,7 @@ pub enum OptionName {
 
 impl OptionName {
     /// The word that it is.
-    pub fn word(self) -> &'static [u8]
+    pub(crate) fn word(self) -> &'static [u8]
         ensures { result.now ≡ option_word self }
     {
         match self {
@@ -30,38 +28,8 @@ impl OptionName {
 
 /// An option of a command, and how often it may stand.
 #[derive(Clone, Copy, Debug)]
-pub struct Choice {
-    pub option: OptionName,
-    pub least: usize,
-    pub most: usize,
-}
-
-// At most one wanted list, at most one apex, and 1 to 64 files.
-const WANT: Choice = Choice {
-    option: OptionName::Want,
-    least: 0,
-    most: 1,
-};
-
-const APEX: Choice = Choice {
-    option: OptionName::Apex,
-    least: 0,
-    most: 1,
-};
-
-const FILES: Choice = Choice {
-    option: OptionName::Zones,
-    least: 1,
-    most: 64,
-};
-
-/// The options of `resolve`.
-pub fn resolve_choices(app: AppName) -> &'static [Choice]
-    ensures { result.now ≡ resolve_choices app }
-{
-    match app {
-        AppName::Enum => &[WANT, APEX, FILES],
-        AppName::Snaptr => &[WANT, FILES],
-        AppName::Unaptr => &[WANT, FILES],
-    }
+pub(crate) struct Choice {
+    pub(crate) option: OptionName,
+    pub(crate) least: usize,
+    pub(crate) most: usize,
 }

@@ -25,7 +25,7 @@ impl Places {
 }
 
 /// The first place.
-pub fn first_of(places: &Places) -> Option<usize>
+pub(crate) fn first_of(places: &Places) -> Option<usize>
     ensures { result ≡ first_of places.now }
 {
     if places.count == 0 {
@@ -37,7 +37,7 @@ pub fn first_of(places: &Places) -> Option<usize>
 
 /// The places of all values of one option among words that are options with their values, where the first value would
 /// stand at `place`. Of more than 64 the others are only counted.
-pub fn places_of(words: &[String], option: OptionName, place: usize) -> Places
+pub(crate) fn places_of(words: &[String], option: OptionName, place: usize) -> Places
     requires { place ≤ 4 }
     ensures { result ≡ places_from (places_in (option_word option) place (texts_of words.now)) }
 {

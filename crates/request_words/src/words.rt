@@ -1,98 +1,103 @@
 //! The words of a command.
-ghost use Rattle.std.specs.Prelude.{◌≡◌, ℕ, List, IfOk, Ok, string_bytes, bytes_eq};
+ghost use Rattle.std.specs.Prelude.{◌≡◌, ℕ, List, IfOk, Ok, string_bytes, bytes_eq, find, option_map, zip};
 ghost use Rattle.std.specs.List.{list_all};
 ghost use Rattle.std.specs.Result.{result_ok};
-ghost use Rattle.request_words.specs.Reading.{app_in, are_chosen, are_options, is_often, is_option, request_in, resolve_in, resolve_options_in, show_in};
+ghost use Rattle.request_words.specs.Reading.{are_chosen, are_options, begin_with, entry_in, fits, is_often, is_option, options_in, request_in, request_of, size_of};
+ghost use Rattle.request_words.specs.Rows.{table};
 ghost use Rattle.request_words.specs.Words.{Means, texts_of, text_at};
 ghost use Rattle.request_words.specs.declared.request.Request.{Request};
 
-use crate::option::{Choice, OptionName, resolve_choices};
+use crate::option::{Choice, OptionName};
 use crate::places::{first_of, places_of};
-use crate::request::{AppName, Origin, Request};
+use crate::request::{Origin, Request};
+use crate::row::{Command, Row, table};
 
 /// The words are no request.
 #[derive(Clone, Copy, Debug, PartialEq, Eq)]
 pub struct Usage;
 
-/// Reads `show` alone, or `resolve APP STRING` and after it options in any order, as the table of commands says. The word
-/// after an option is its value, whatever it is. Takes no memory.
+/// Reads the words of a command as the table of commands says: its first words, its arguments, and its options in any
+/// order. The word after an option is its value, whatever it is. Takes no memory.
 pub fn read_words(words: &[String]) -> Result<Request, Usage>
     ensures meant { IfOk result (λ request. Means (texts_of words.now) request) }
     ensures only { (request : Request) → Means (texts_of words.now) request → result ≡ Ok request }
 {
-    read_request(words)
+    read_words_inner(words)
 }
 
-// The same, as a reading from left to right.
-#[tactic(auto, unfolding(crate::specs::Reading::request_in))]
-fn read_request(words: &[String]) -> Result<Request, Usage>
+// The same, by the table.
+fn read_words_inner(words: &[String]) -> Result<Request, Usage>
     ensures { result_ok result ≡ request_in (texts_of words.now) }
 {
-    let [command, rest @ ..] = words else {
-        return Err(Usage);
-    };
-    if is_word(command, b"resolve") {
-        return read_resolve(rest);
+    match row_of(words) {
+        Some(row) => Ok(request_of(row.command, options_of(words, &row))),
+        None => Err(Usage),
     }
-    if is_word(command, b"show") {
-        return read_show(rest);
-    }
-    Err(Usage)
 }
 
-// The words behind `resolve`.
-#[tactic(auto, unfolding(crate::specs::Reading::resolve_in))]
-fn read_resolve(words: &[String]) -> Result<Request, Usage>
-    ensures { result_ok result ≡ resolve_in (texts_of words.now) }
+// The row that the words are those of.
+fn row_of(words: &[String]) -> Option<Row>
+    ensures { option_map entry_in result ≡ find (fits (texts_of words.now)) table }
 {
-    let [application, _, options @ ..] = words else {
-        return Err(Usage);
-    };
-    let app = read_app(application)?;
-    read_resolve_options(app, options)
+    for row in table() {
+        if fits(words, row) {
+            return Some(*row);
+        }
+    }
+    None
 }
 
-fn read_app(word: &String) -> Result<AppName, Usage>
-    ensures { result_ok result ≡ app_in (string_bytes word.now) }
+// The request of a command, whose options are these words.
+fn request_of(command: Command, options: &[String]) -> Request
+    ensures { result ≡ request_of command (texts_of options.now) }
 {
-    if is_word(word, b"enum") {
-        return Ok(AppName::Enum);
+    match command {
+        Command::Resolve(app) => Request::Resolve {
+            app,
+            string: 2,
+            want: first_of(&places_of(options, OptionName::Want, 4)),
+            apex: first_of(&places_of(options, OptionName::Apex, 4)),
+            origin: Origin::Files(places_of(options, OptionName::Zones, 4)),
+        },
+        Command::Show => Request::Show,
     }
-    if is_word(word, b"snaptr") {
-        return Ok(AppName::Snaptr);
-    }
-    if is_word(word, b"unaptr") {
-        return Ok(AppName::Unaptr);
-    }
-    Err(Usage)
 }
 
-// The words of the options of `resolve`.
-#[tactic(auto, unfolding(crate::specs::Reading::resolve_options_in))]
-fn read_resolve_options(app: AppName, options: &[String]) -> Result<Request, Usage>
-    ensures { result_ok result ≡ resolve_options_in app (texts_of options.now) }
+// Whether the words are those of a row.
+fn fits(words: &[String], row: &Row) -> bool
+    ensures { result ≡ fits (texts_of words.now) (entry_in row.now) }
 {
-    if !are_chosen(options, resolve_choices(app)) {
-        return Err(Usage);
+    if words.len() < size_of(row) {
+        return false;
     }
-    Ok(Request::Resolve {
-        app,
-        string: 2,
-        want: first_of(&places_of(options, OptionName::Want, 4)),
-        apex: first_of(&places_of(options, OptionName::Apex, 4)),
-        origin: Origin::Files(places_of(options, OptionName::Zones, 4)),
-    })
+    if !begin_with(words, row.heads) {
+        return false;
+    }
+    are_chosen(options_of(words, row), row.choices)
 }
 
-// The words behind `show`: none.
-#[tactic(auto, unfolding(crate::specs::Reading::show_in))]
-fn read_show(words: &[String]) -> Result<Request, Usage>
-    ensures { result_ok result ≡ show_in (texts_of words.now) }
+// How many words a row has before its options.
+fn size_of(row: &Row) -> usize
+    ensures { result ≡ size_of (entry_in row.now).row }
 {
-    match words {
-        [] => Ok(Request::Show),
-        _ => Err(Usage),
-    }
+    row.heads.len() + row.arguments as usize
+}
+
+// The words of the options.
+fn options_of<'a>(words: &'a [String], row: &Row) -> &'a [String]
+    ensures { texts_of result.now ≡ options_in (entry_in row.now).row (texts_of words.now) }
+{
+    &words[size_of(row).min(words.len())..]
+}
+
+// Whether words begin with these, which are no more than they.
+fn begin_with(words: &[String], heads: &[&[u8]]) -> bool
+    ensures { result ≡ list_all (λ pair. bytes_eq (string_bytes pair.1) pair.0.now) (zip heads.now words.now) }
+{
+    heads
+        .iter()
+        .zip(words)
+        .all(|(head, word)| is_word(word, head))
 }
 
 // Whether the words are options of these with their values, each as often as it may stand.

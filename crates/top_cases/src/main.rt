@@ -1,12 +1,12 @@
-//! Whole runs over objects in memory. The input is a list of verbs, one a line, and each line is printed again, so that the
-//! output reads as a transcript:
+//! Whole runs over objects in memory. The input is a list of verbs, one a line, and each line is printed again, so that
+//! the output reads as a transcript:
 //!
 //! - `# TEXT` says what comes next, and begins anew: no files, no input, and calls that do not fail;
-//! - `file NAME` begins a file, and `input` the input; `: TEXT` adds a line to what was begun last, `- TEXT` adds a text
-//!   without its line feed, `byte N` adds the byte of that number, `fill N TEXT` adds a text N times, and `lines FROM TO
-//!   TEXT` adds a line for each number, which stands for `%` in it, and the next one for `&`;
-//! - `fail shelf N`, `fail input N`, `fail out N` and `fail err N` let call N of an object fail, and `most N` lets the output
-//!   take at most N bytes at a time;
+//! - `file NAME` begins a file, and `input` the input; `: TEXT` adds a line to what was begun last, `- TEXT` adds a
+//!   text without its line feed, `byte N` adds the byte of that number, `fill N TEXT` adds a text N times, and `lines
+//!   FROM TO TEXT` adds a line for each number, which stands for `%` in it, and the next one for `&`;
+//! - `fail shelf N`, `fail input N`, `fail out N` and `fail err N` let call N of an object fail, and `most N` lets the
+//!   output take at most N bytes at a time;
 //! - `run WORD|WORD|..` runs these words, and `run` alone none. It prints the exit code, each line of the output after
 //!   `> `, and each line of the faults after `! `; a last line without a line feed stands after `>~` or `!~`.
 #![tactic(auto)]

@@ -5,15 +5,15 @@ use std::alloc::Global;
 
 /// A run that ended.
 #[derive(Drop)]
-pub struct Ended {
-    pub code: u8,
-    pub out: MemSink,
-    pub err: MemSink,
+pub(crate) struct Ended {
+    pub(crate) code: u8,
+    pub(crate) out: MemSink,
+    pub(crate) err: MemSink,
 }
 
 /// Files by their names, the input, and which calls are to fail.
 #[derive(Drop)]
-pub struct Scene {
+pub(crate) struct Scene {
     alloc: Global,
     files: Vec<(String, String)>,
     input: String,
@@ -28,7 +28,7 @@ pub struct Scene {
 
 impl Scene {
     /// No files, no input, and calls that do not fail.
-    pub fn new(alloc: Global) -> Scene {
+    pub(crate) fn new(alloc: Global) -> Scene {
         Scene {
             alloc,
             files: Vec::new(alloc),
@@ -43,7 +43,7 @@ impl Scene {
     }
 
     /// Does what a verb says.
-    pub fn set(&mut self, verb: &str, rest: &str) -> Result<(), MemoryFault> {
+    pub(crate) fn set(&mut self, verb: &str, rest: &str) -> Result<(), MemoryFault> {
         match verb {
             "file" => {
                 let name = rest.to_string(self.alloc)?;
@@ -158,7 +158,7 @@ impl Scene {
     }
 
     /// Runs words that have `|` between them, or none.
-    pub fn run(&self, words: Option<&str>) -> Result<Ended, MemoryFault> {
+    pub(crate) fn run(&self, words: Option<&str>) -> Result<Ended, MemoryFault> {
         let mut list = Vec::new(self.alloc);
         if let Some(words) = words {
             for word in words.split('|') {

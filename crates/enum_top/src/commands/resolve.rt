@@ -27,7 +27,7 @@ use std::alloc::Global;
 use zone_db::{ZoneSet, ZoneSource};
 
 /// Prints the report of the string that is the word at `string`, over the files whose names are the words at `places`.
-pub fn resolve_text<S: Shelf>(
+pub(crate) fn resolve_text<S: Shelf>(
     alloc: Global,
     words: &[String],
     app: AppName,
@@ -54,7 +54,7 @@ pub fn resolve_text<S: Shelf>(
     })
 }
 
-// The report of what an application asks of zones. Want of memory is its one fault.
+// The report of what an application asks of zones. Out of memory is its one fault.
 fn report_of(
     alloc: Global,
     app: AppName,

@@ -18,7 +18,11 @@ use message_text::print_message;
 use std::alloc::Global;
 
 /// Prints the message that the digits of the input spell. At most 16 MiB and 4,096 bytes of the input are taken.
-pub fn show_text<I: Source>(alloc: Global, input: &mut I) -> Result<Printed, Refusal>
+///
+/// # Errors
+/// `IllFormed` where the input is too large, its digits are no bytes, or the bytes no message; `Outside` where the
+/// input failed, and `Memory`.
+pub(crate) fn show_text<I: Source>(alloc: Global, input: &mut I) -> Result<Printed, Refusal>
     ensures does { DoesOnInput (Shows (I.state input.old).left) result }
     ensures input { Blames (I.state input.old).faults (I.state input.new).faults (IsErrOf result (refusal.Outside Object.Input)) }
     ensures taken { ¬ IsErrOf result (refusal.Outside Object.Input)

@@ -1,5 +1,5 @@
 use Rattle.std.proofs.Common.{sym, ◌∙◌}
-use Rattle.request_words.proofs.ReadingLemmas.{options_end}
+use Rattle.request_words.proofs.OptionLemmas.{options_end}
 use Rattle.request_words.proofs.words.are_options.Goals as goal
 
 pub returns : goal.returns
