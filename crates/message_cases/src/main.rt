@@ -2,12 +2,13 @@
 //!
 //! - `decode MESSAGE`: the lines of the message, or its fault
 //! - `encode MESSAGE`: the message is read and written again; of a long one how many bytes it has
-//! - `copy MESSAGE`: the RDATA of a copy of each record
+//! - `copy MESSAGE`: owner, TTL, class, type and RDATA of a copy of each record
 //! - `cuts MESSAGE`: from which length on the front of the message has which fault
 //! - `chain N`: the owner behind a chain of N pointers, each to the one before it
 //! - `labels N`: the same, with a label before each pointer
 //! - `frames STEP..`: a step is a piece of a stream, or `?` for the next message
 //! - `everywhere STREAM`: the messages of a stream that is fed in two pieces, cut at every byte
+//! - `bytes STREAM`: the messages of a stream that is fed a byte at a time
 //!
 //! Messages are hexadecimal, and `<63*61>` is `61` 63 times. The file stdout has the answers by RFC 1035.
 #![tactic(auto)]
@@ -39,6 +40,7 @@ fn answer(alloc: Global, line: &str) -> Result<String, MemoryFault> {
         "chain" => chains::chain(alloc, rest),
         "labels" => chains::labels(alloc, rest),
         "frames" => streams::frames(alloc, rest),
+        "bytes" => streams::byte_by_byte(alloc, rest),
         "everywhere" => streams::everywhere(alloc, rest),
         _ => messages::answer(alloc, verb, rest),
     }

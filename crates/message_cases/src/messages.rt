@@ -55,27 +55,34 @@ fn written(alloc: Global, message: &Message) -> Result<String, MemoryFault> {
     bytes::shown(alloc, out.as_slice())
 }
 
-// The RDATA of a copy of each record.
+// The fields of a copy of each record.
 fn copied(alloc: Global, message: &Message) -> Result<String, MemoryFault> {
     let mut told = String::new(alloc);
     push_copies(alloc, message.answers.as_slice(), &mut told)?;
     push_copies(alloc, message.authority.as_slice(), &mut told)?;
     push_copies(alloc, message.additional.as_slice(), &mut told)?;
-    Ok(told.trim_end().to_string(alloc)?)
+    Ok(told)
 }
 
 fn push_copies(alloc: Global, records: &[Record], told: &mut String) -> Result<(), MemoryFault> {
     for record in records {
         let copy = record.copy(alloc)?;
-        let rdata = copy.content.rdata(alloc)?;
-        let shown = match rdata.as_slice() {
-            [] => "-".to_string(alloc)?,
-            bytes => hex::encode(alloc, bytes)?,
-        };
-        told.push_str(shown.as_str())?;
-        told.push_str(" ")?;
+        let owner = String::from_utf8_lossy(alloc, copy.owner.text().as_slice())?;
+        let rdata = rdata_of(alloc, &copy)?;
+        let (ttl, class, kind) = (copy.ttl, copy.class, copy.kind);
+        let before = if told.is_empty() { "" } else { "; " };
+        told.push_str(format!(in alloc; "{before}{owner} {ttl} {class} {kind} {rdata}")?.as_str())?;
     }
     Ok(())
+}
+
+// The RDATA in hexadecimal; `-` where there is none.
+fn rdata_of(alloc: Global, record: &Record) -> Result<String, MemoryFault> {
+    let rdata = record.content.rdata(alloc)?;
+    match rdata.as_slice() {
+        [] => Ok("-".to_string(alloc)?),
+        bytes => Ok(hex::encode(alloc, bytes)?),
+    }
 }
 
 // From which length on a front of the message has which fault.

@@ -41,6 +41,18 @@ pub fn everywhere(alloc: Global, rest: &str) -> Result<String, MemoryFault> {
     Ok(format!(in alloc; "{} cuts: {}", stream.len() + 1, whole.trim_end())?)
 }
 
+/// The messages of a stream that is fed a byte at a time, asked for after each.
+pub fn byte_by_byte(alloc: Global, rest: &str) -> Result<String, MemoryFault> {
+    let stream = bytes::of_text(alloc, rest)?;
+    let mut framer = Framer::new(alloc);
+    let mut told = String::new(alloc);
+    for byte in stream.as_slice() {
+        framer.feed(&[*byte])?;
+        push_all(alloc, &mut framer, &mut told)?;
+    }
+    Ok(told.trim_end().to_string(alloc)?)
+}
+
 // The messages of a stream that is fed in two pieces, asked for after each.
 fn given(alloc: Global, stream: &[u8], cut: usize) -> Result<String, MemoryFault> {
     let mut framer = Framer::new(alloc);
