@@ -10,7 +10,7 @@ use Rattle.enum_base.specs.Outside.{AreFirst, EndsAtEnd, File, Finds, Opens, She
 use Rattle.naptr_data.proofs.CutLemmas.{Contains-none, head_or_behind}
 use Rattle.naptr_data.specs.Zones.{Labels}
 use Rattle.request_words.specs.Words.{text_at}
-use Rattle.zone_db.specs.Zone.{IsPlain}
+use Rattle.zone_build.specs.Zone.{IsPlain}
 use Rattle.zone_text.specs.Fed.{Fed}
 use Rattle.zone_text.specs.Zone.{Are, BreaksSoFar, ZoneBreaks, most_bytes}
 use Rattle.zone_text.specs.declared.fault.TextFault.{TextFault}

@@ -3,7 +3,7 @@ use Rattle.std.proofs.Common.{◌≡◌, ℕ, suc, ◌+◌, ◌<◌, ◌≤◌, 
 use Rattle.std.proofs.Math.Seq.{drop-cons}
 use Rattle.std.proofs.lemmas.Grind.{common_steps}
 use Rattle.enum_base.specs.Outside.{File}
-use Rattle.zone_db.specs.Zone.{Zone}
+use Rattle.zone_build.specs.Zone.{Zone}
 use Rattle.enum_base.specs.Stages.Then.{goes, stops}
 use Rattle.enum_top.specs.ZoneFiles.{NextZone, ZoneAt, ZonesFrom}
 use Rattle.enum_top.specs.declared.cause.Cause.{Cause}

@@ -3,8 +3,9 @@ use Rattle.std.proofs.Common.{◌≡◌, inl, inr, ℕ, List, [], ◌∷◌, Som
 use Rattle.dns_wire.specs.declared.record.Record.{Record}
 use Rattle.enum_base.specs.Outside.{File}
 use Rattle.naptr_data.specs.Zones.{Labels}
-use Rattle.zone_db.specs.Laws.{BuiltRecordsHaveNoFault, FittingZonesHaveNoAddFault, RecordsHaveOneFault, RecordsMakeOneZone, ZonesHaveOneAddFault}
-use Rattle.zone_db.specs.Zone.{Zone}
+use Rattle.zone_build.specs.Laws.{BuiltRecordsHaveNoFault, RecordsHaveOneFault, RecordsMakeOneZone}
+use Rattle.zone_db.specs.Laws.{FittingZonesHaveNoAddFault, ZonesHaveOneAddFault}
+use Rattle.zone_build.specs.Zone.{Zone}
 use Rattle.zone_text.specs.Zone.{ZoneBreaks, ZoneSays}
 use Rattle.zone_text.specs.declared.fault.TextFault.{TextFault}
 use Rattle.zone_token.specs.declared.fault.TextWhy.{TextWhy}

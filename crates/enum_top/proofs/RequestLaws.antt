@@ -4,8 +4,8 @@ use Rattle.std.specs.Prelude.{IsSome}
 use Rattle.dns_name.specs.Name.{folded_labels}
 use Rattle.enum_base.proofs.StageLaws.{IsSingle, IsSingle-then}
 use Rattle.enum_base.specs.Outside.{File}
-use Rattle.zone_db.specs.Plain as plain
-use Rattle.zone_db.specs.Zone.{Zone}
+use Rattle.zone_build.specs.Plain as plain
+use Rattle.zone_build.specs.Zone.{Zone}
 use Rattle.request_words.specs.declared.request.AppName.{AppName}
 use Rattle.request_words.specs.declared.request.Origin.TheVariants as origin
 use Rattle.request_words.specs.declared.request.Request.{Request}

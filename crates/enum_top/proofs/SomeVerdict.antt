@@ -20,8 +20,8 @@ use Rattle.request_words.specs.declared.request.Request.TheVariants.{Resolve, Sh
 use Rattle.snaptr_app.specs.Domain.{domain_fault, key_of}
 use Rattle.std.specs.List.{AllByRecursion}
 use Rattle.zone_db.specs.Laws.{ToldRulesAreApart}
-use Rattle.zone_db.specs.Plain.{told}
-use Rattle.zone_db.specs.Zone.{IsValid, Zone}
+use Rattle.zone_build.specs.Plain.{told}
+use Rattle.zone_build.specs.Zone.{IsValid, Zone}
 use Rattle.enum_top.specs.Answers.{Answers}
 use Rattle.enum_top.specs.Applications.{Asked, Asks, Keys, Strings, apex_of, as_apex, domain_key, domain_string, faultless, fitting, want_fault}
 use Rattle.enum_top.specs.Resolving.{Reports, Resolves, client_for, printed_as}

@@ -9,15 +9,16 @@ use Rattle.enum_base.specs.Outside.{File, file_of}
 use Rattle.enum_base.specs.Stages.Then.{goes, stops}
 use Rattle.naptr_data.specs.Zones.{Labels}
 use Rattle.request_words.specs.Words.{text_at}
-use Rattle.zone_db.specs.Built.{IsBuilt}
-use Rattle.zone_db.specs.Faults.{IsZoneFault}
-use Rattle.zone_db.specs.Laws.{RecordsMakeAZoneOrHaveAFault, ZonesFitOrHaveAnAddFault}
+use Rattle.zone_build.specs.Built.{IsBuilt}
+use Rattle.zone_build.specs.Faults.{IsZoneFault}
+use Rattle.zone_build.specs.Laws.{RecordsMakeAZoneOrHaveAFault}
+use Rattle.zone_db.specs.Laws.{ZonesFitOrHaveAnAddFault}
 use Rattle.zone_db.specs.Sets.{HoldsApex, IsAddFault, IsFull}
-use Rattle.zone_db.specs.Zone.{IsPlain, IsValid, Zone}
+use Rattle.zone_build.specs.Zone.{IsPlain, IsValid, Zone}
 use Rattle.zone_db.specs.declared.fault.AddFault.{AddFault}
 use Rattle.zone_db.specs.declared.fault.AddFault.TheVariants as add
-use Rattle.zone_db.specs.declared.fault.ZoneFault.{ZoneFault}
-use Rattle.zone_db.specs.declared.fault.ZoneFault.TheVariants as fault
+use Rattle.zone_build.specs.declared.fault.ZoneFault.{ZoneFault}
+use Rattle.zone_build.specs.declared.fault.ZoneFault.TheVariants as fault
 use Rattle.zone_text.specs.Zone.{ZoneBreaks, ZoneSays}
 use Rattle.zone_token.specs.declared.fault.TextWhy.{TextWhy}
 use Rattle.enum_top.specs.ZoneFiles.{Adds, Builds, Files, NextZone, TextAt, Texts, ZoneAt, ZonesFrom, found}

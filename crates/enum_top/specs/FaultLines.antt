@@ -6,7 +6,8 @@ use Rattle.enum_app.specs.FaultWords.{number_fault}
 use Rattle.request_words.specs.Words.{text_at}
 use Rattle.service_field.specs.FaultWords.{service_fault}
 use Rattle.snaptr_app.specs.FaultWords.{domain_fault_words}
-use Rattle.zone_db.specs.FaultWords.{add_fault, zone_fault}
+use Rattle.zone_build.specs.FaultWords.{zone_fault}
+use Rattle.zone_db.specs.FaultWords.{add_fault}
 use Rattle.zone_text.specs.FaultWords.{text_fault}
 use Rattle.enum_top.specs.declared.cause.Cause.{Cause}
 use Rattle.enum_top.specs.declared.cause.Cause.TheVariants.{Number, Domain, Want, Apex, Key, Absent, Text, Zone, Set, InputTooLarge, Hex, Message}

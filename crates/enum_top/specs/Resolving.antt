@@ -6,8 +6,8 @@ use Rattle.ddds_walk.specs.Rules.{Client, client_of}
 use Rattle.ddds_walk.specs.declared.report.Report.{Report}
 use Rattle.ddds_walk.specs.declared.report.Report.TheVariants.{Ends, Loop}
 use Rattle.enum_base.specs.Outside.{File}
-use Rattle.zone_db.specs.Plain.{told}
-use Rattle.zone_db.specs.Zone.{Zone}
+use Rattle.zone_build.specs.Plain.{told}
+use Rattle.zone_build.specs.Zone.{Zone}
 use Rattle.report_text.specs.Printing.{printed}
 use Rattle.request_words.specs.declared.request.AppName.{AppName}
 use Rattle.enum_top.specs.Applications.{Asked, Asks, meaning_of}

@@ -5,7 +5,7 @@ use Rattle.service_field.specs.Wanted.{wanted_text}
 use Rattle.service_field.specs.declared.fault.ServiceFault.{ServiceFault}
 use Rattle.service_field.specs.declared.wanted.Wanted.{Wanted}
 use Rattle.dns_wire.specs.declared.record.Record.{Record}
-use Rattle.zone_db.specs.Zone.{Zone}
+use Rattle.zone_build.specs.Zone.{Zone}
 use Rattle.zone_text.specs.declared.fault.TextFault.{TextFault}
 use Rattle.zone_token.specs.declared.fault.TextWhy.TheVariants as text
 use Rattle.enum_base.specs.Causes.{Blames}

@@ -6,14 +6,14 @@ use Rattle.enum_base.specs.Outside.{File, file_of}
 use Rattle.request_words.specs.Words.{text_at}
 use Rattle.zone_text.specs.Zone.{ZoneBreaks, ZoneSays}
 use Rattle.zone_text.specs.declared.fault.TextFault.{TextFault}
-use Rattle.zone_db.specs.Built.{IsBuilt}
-use Rattle.zone_db.specs.Faults.{IsZoneFault}
+use Rattle.zone_build.specs.Built.{IsBuilt}
+use Rattle.zone_build.specs.Faults.{IsZoneFault}
 use Rattle.zone_db.specs.Sets.{HoldsApex, IsAddFault, IsFull}
-use Rattle.zone_db.specs.Zone.{IsValid, Zone}
+use Rattle.zone_build.specs.Zone.{IsValid, Zone}
 use Rattle.zone_db.specs.declared.fault.AddFault.{AddFault}
 use Rattle.zone_db.specs.declared.fault.AddFault.TheVariants as add
-use Rattle.zone_db.specs.declared.fault.ZoneFault.{ZoneFault}
-use Rattle.zone_db.specs.declared.fault.ZoneFault.TheVariants as fault
+use Rattle.zone_build.specs.declared.fault.ZoneFault.{ZoneFault}
+use Rattle.zone_build.specs.declared.fault.ZoneFault.TheVariants as fault
 use Rattle.enum_base.specs.Stages.{Then}
 use Rattle.enum_top.specs.declared.cause.Cause.{Cause}
 use Rattle.enum_top.specs.declared.cause.Cause.TheVariants as cause

@@ -2,7 +2,7 @@
 ghost use Rattle.std.specs.Prelude.{Contains, IsErrOf};
 ghost use Rattle.dns_wire.specs.declared.record.Record.{Record};
 ghost use Rattle.request_words.specs.Words.{texts_of};
-ghost use Rattle.zone_db.specs.Zone.{IsPlain};
+ghost use Rattle.zone_build.specs.Zone.{IsPlain};
 ghost use Rattle.enum_top.specs.Running.{DoesAlone, DoesOnShelf, ReadsShelf, zones_after};
 ghost use Rattle.enum_top.specs.ZoneFiles.{Adds, Builds, ZoneAt, ZonesOf};
 ghost use Rattle.enum_top.specs.declared.refusal.Refusal.TheVariants as refusal;

@@ -4,7 +4,7 @@ use Rattle.std.specs.Prelude.{Contains, OnOk, OnErr}
 use Rattle.std.proofs.lemmas.List.Elements.{Contains-push_cases}
 use Rattle.enum_base.specs.declared.fault.MemoryFault.{MemoryFault}
 use Rattle.dns_wire.specs.declared.record.Record.{Record}
-use Rattle.zone_db.specs.Zone.{IsPlain}
+use Rattle.zone_build.specs.Zone.{IsPlain}
 
 -- all are plain after one more was put to them, or was not
 pub plain_more : (old new : List Record) (x : Record) (r : Result (Unit {0}) MemoryFault) → OnOk r (new ≡ old ++ x ∷ []) → OnErr r (new ≡ old) → ((one : Record) → Contains old one → IsPlain one) → IsPlain x → (one : Record) → Contains new one → IsPlain one

@@ -1,7 +1,7 @@
 //! Records that a zone may be built of.
 ghost use Rattle.std.specs.Prelude.{◌≡◌, ◌++◌, ◌∷◌, [], OnOk, Contains};
 ghost use Rattle.dns_wire.specs.declared.record.Record as spec;
-ghost use Rattle.zone_db.specs.Zone.{IsPlain};
+ghost use Rattle.zone_build.specs.Zone.{IsPlain};
 
 use dns_wire::{Record, Records};
 use enum_base::MemoryFault;
@@ -17,7 +17,7 @@ pub struct Given {
 impl Model for Given {
     ghost use Rattle.std.specs.Prelude.{List, Contains};
     ghost use Rattle.dns_wire.specs.declared.record.Record.{Record};
-    ghost use Rattle.zone_db.specs.Zone.{IsPlain};
+    ghost use Rattle.zone_build.specs.Zone.{IsPlain};
 
     ghost Value = { List Record };
 

@@ -1,6 +1,6 @@
 //! Records in the lines of cases.
 ghost use Rattle.std.specs.Prelude.{IfOk, IfSome};
-ghost use Rattle.zone_db.specs.Zone.{IsPlain};
+ghost use Rattle.zone_build.specs.Zone.{IsPlain};
 
 use crate::content::{content_of, long, name_of};
 use dns_wire::Record;

@@ -14,12 +14,11 @@ use Rattle.naptr_data.specs.Zones.{Labels, StandsAt, rule}
 use Rattle.naptr_data.specs.Zones as plain
 use Rattle.naptr_data.specs.declared.rule.Naptr.{Naptr}
 use Rattle.zone_db.specs.Laws.{ToldRulesAreApart}
-use Rattle.zone_db.specs.Plain.{owned_of, plain_of}
-use Rattle.zone_db.specs.Zone.{Zone, IsCanonical, IsRising, IsValid, order_of}
-use Rattle.zone_db.specs.declared.key.Key.TheVariants.{Whole}
-use Rattle.zone_db.proofs.ListLemmas.{AllByRecursion-contains}
+use Rattle.zone_build.specs.Plain.{owned_of, plain_of}
+use Rattle.zone_build.specs.Zone.{Zone, IsCanonical, IsRising, IsValid, order_of}
+use Rattle.zone_build.proofs.ListLemmas.{AllByRecursion-contains}
 use Rattle.zone_db.proofs.OfferLemmas.{in_told, rule_has}
-use Rattle.zone_db.proofs.OrderLemmas.{alike_equal, bytes_cmp, bytes_cmp-equal, order_of-total, then_equal, turned_equal}
+use Rattle.zone_build.proofs.OrderLemmas.{bytes_cmp, bytes_cmp-equal, order_of-total, repeats_equal, then_equal, turned_equal}
 
 -- rising records that are equal in order are one
 rising_one : (records : List Record) → IsRising records → (one two : Record) → Contains records one → Contains records two → order_of one two ≡ Equal → one ≡ two
@@ -67,7 +66,7 @@ one_rule z valid name r s h k e =
     let f = rule_has z name r valid h in
     let g = rule_has z name s valid k in
     let bytes : rdata_of f.0.content ≡ rdata_of g.0.content = ap rdata_of f.3 ∙ same_rdata r s e ∙ ap rdata_of (sym g.3) in
-    let equal : order_of f.0 g.0 ≡ Equal = alike_equal Whole f.0 g.0 ((f.2.0 ∙ sym g.2.0, f.2.1 ∙ sym g.2.1), bytes) in
+    let equal : order_of f.0 g.0 ≡ Equal = repeats_equal f.0 g.0 ((f.2.0 ∙ sym g.2.0, f.2.1 ∙ sym g.2.1), bytes) in
     let same : f.0 ≡ g.0 = canonical_one z.records valid.order f.0 g.0 f.2.1 g.2.1 f.1 g.1 equal in
     let contents : content.Naptr r ≡ content.Naptr s = sym f.3 ∙ ap (λ (v : Record). v.content) same ∙ g.3 in
     cc

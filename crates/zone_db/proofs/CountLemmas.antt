@@ -1,27 +1,16 @@
 -- How many rules and CNAMEs zones hold.
-use Rattle.std.proofs.Common.{◌≡◌, ℕ, ◌+◌, ◌<◌, ◌≤◌, List, [], ◌∷◌, ◌++◌, length, take, get_or, map, sym, ap, ◌∙◌, arith}
-use Rattle.naptr_data.specs.Zones.{Owned, holds_one, rules_and_aliases, rules_and_aliases_in}
+use Rattle.std.proofs.Common.{◌≡◌, ℕ, ◌+◌, ◌<◌, ◌≤◌, List, [], ◌∷◌, ◌++◌, length, take, get_or, sym, ap, ◌∙◌, arith}
+use Rattle.naptr_data.specs.Zones.{rules_and_aliases, rules_and_aliases_in}
 use Rattle.naptr_data.specs.Zones as plain
-use Rattle.dns_wire.specs.declared.record.Record.{Record}
-use Rattle.zone_db.specs.Zone.{Zone}
-use Rattle.zone_db.specs.Plain.{owned_of, plain_of, told}
+use Rattle.zone_build.specs.Zone.{Zone}
+use Rattle.zone_build.specs.Plain.{plain_of, told}
 use Rattle.zone_db.specs.Sets.{record_count, AreZones}
-use Rattle.zone_db.proofs.ListLemmas.{next_of}
+use Rattle.zone_build.proofs.ListLemmas.{next_of}
 use Rattle.zone_db.proofs.SetLemmas.{count_more, count_front}
-
--- one item more counts for itself
-counts_in : (items : List Owned) (o : Owned) → rules_and_aliases_in (items ++ o ∷ []) ≡ rules_and_aliases_in items + holds_one o.item
-counts_in [] o = omega arith
-counts_in (p ∷ items) o = omega (arith, counts_in items o)
 
 counts : (zones : List plain.Zone) (z : plain.Zone) → rules_and_aliases (zones ++ z ∷ []) ≡ rules_and_aliases zones + rules_and_aliases_in z.items
 counts [] z = omega arith
 counts (y ∷ zones) z = omega (arith, counts zones z)
-
--- one more record is counted
-pub count_in_more : (records : List Record) (i : ℕ) (x : Record) (n : ℕ) → i < length records → x ≡ get_or records i x → n ≡ rules_and_aliases_in (map owned_of (take i records)) → n + holds_one (owned_of x).item ≡ rules_and_aliases_in (map owned_of (take (i + 1) records))
-count_in_more records i x n within is h =
-    ap (λ m. m + holds_one (owned_of x).item) h ∙ sym (counts_in (map owned_of (take i records)) (owned_of x)) ∙ ap rules_and_aliases_in (sym (next_of owned_of records i x within is))
 
 -- one more zone is counted
 pub count_zones_more : (zones : List Zone) (i : ℕ) (x : Zone) (n : ℕ) → i < length zones → x ≡ get_or zones i x → n ≡ rules_and_aliases (told (take i zones)) → n + rules_and_aliases_in (plain_of x).items ≡ rules_and_aliases (told (take (i + 1) zones))

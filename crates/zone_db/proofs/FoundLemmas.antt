@@ -6,14 +6,14 @@ use Rattle.naptr_data.specs.Zones.{Labels, Exists, Encloses, IsSource, star}
 use Rattle.naptr_data.proofs.CutLemmas.{Contains-head, Contains-none, head_or_behind}
 use Rattle.naptr_data.proofs.BelowLemmas.{below_longer, length_same}
 use Rattle.std.proofs.lemmas.List.Elements.{Contains-append_left, Contains-append_right, Contains-append_cases}
-use Rattle.zone_db.specs.Zone.{Zone}
-use Rattle.zone_db.specs.Plain.{plain_of}
+use Rattle.zone_build.specs.Zone.{Zone}
+use Rattle.zone_build.specs.Plain.{plain_of}
 use Rattle.zone_db.specs.Sets.{AreApart}
 use Rattle.zone_db.specs.LookUp.{Decides, IsDeciding, IsFound}
 use Rattle.zone_db.specs.Seeking.{IsClosest, IsUncut, IsAnswer, IsFoundIn}
 use Rattle.zone_db.specs.declared.found.Found.{Found}
 use Rattle.zone_db.specs.declared.found.Found.TheVariants as found
-use Rattle.zone_db.proofs.ListLemmas.{AllByRecursion-contains, only_one}
+use Rattle.zone_build.proofs.ListLemmas.{AllByRecursion-contains, only_one}
 
 -- what is answered at a source is what is found
 pub answered_found : (zone : Zone) (name source : Labels) (asked : ℕ) (f : Found) → IsUncut zone name → IsSource (plain_of zone) name source → Exists (plain_of zone) source → IsAnswer zone source asked f → IsFoundIn zone name asked f

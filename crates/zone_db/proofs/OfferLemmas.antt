@@ -1,8 +1,7 @@
 -- What is found in zones is what they offer as they are told.
-use Rattle.std.proofs.Common.{◌≡◌, inl, inr, ℕ, ◌+◌, ◌<◌, ◌≤◌, List, [], ◌∷◌, ◌++◌, length, map, ◌==◌, ◌&&◌, refl, sym, ap, subst, ◌∙◌, arith}
-use Rattle.std.specs.Prelude.{Contains, IsTrue, nat_lt}
+use Rattle.std.proofs.Common.{◌≡◌, inl, inr, ℕ, ◌+◌, ◌<◌, ◌≤◌, List, [], ◌∷◌, ◌++◌, length, map, refl, sym, ap, subst, ◌∙◌, arith}
+use Rattle.std.specs.Prelude.{Contains, IsTrue}
 use Rattle.std.specs.List.{AllByRecursion}
-use Rattle.std.proofs.lemmas.Bool.{and_parts, eqb-true}
 use Rattle.std.proofs.lemmas.List.{map-append}
 use Rattle.std.proofs.lemmas.List.Sums.{sum_by-append}
 use Rattle.dns_wire.specs.Rdata.{rdata_of}
@@ -14,36 +13,21 @@ use Rattle.naptr_data.specs.declared.rule.Naptr.{Naptr}
 use Rattle.naptr_data.specs.declared.offer.Offer.{Offer}
 use Rattle.dns_name.specs.Name.{AreSame, IsBelow, folded_labels}
 use Rattle.naptr_data.proofs.BelowLemmas.{below_itself, below_same_top}
-use Rattle.dns_wire.specs.Kinds.{belongs, kind_of, is_whole, internet, a, ns, cname, soa, ptr, mx, txt, aaaa, srv, naptr}
+use Rattle.dns_wire.specs.Kinds.{kind_of, is_whole, a, ns, cname, naptr}
 use Rattle.dns_wire.specs.declared.content.Content.{Content}
 use Rattle.dns_wire.specs.declared.content.Content.TheVariants as content
 use Rattle.dns_wire.specs.declared.record.Record.{Record}
-use Rattle.zone_db.specs.Zone.{Zone, IsIn, IsSet, IsValid, IsRising, IsCanonical, AreRepeats, weight}
+use Rattle.zone_build.specs.Zone.{Zone, IsIn, IsSet, IsValid, IsRising, IsCanonical, AreRepeats, weight}
 use Rattle.zone_db.specs.Offering.{IsReadable}
-use Rattle.zone_db.specs.declared.key.Key.TheVariants.{Whole}
-use Rattle.zone_db.proofs.OrderLemmas.{alike_equal}
-use Rattle.zone_db.specs.Plain.{item_of, owned_of, plain_of, told}
+use Rattle.zone_build.proofs.OrderLemmas.{repeats_equal}
+use Rattle.zone_build.proofs.RdataLemmas.{kind_is}
+use Rattle.zone_build.specs.Plain.{item_of, owned_of, plain_of, told}
 use Rattle.zone_db.specs.Sets.{AreApart, AreZones}
 use Rattle.zone_db.specs.LookUp.{Decides, IsCut, IsServed, HasKind, Answers, MeetsAlias, IsAnswered, IsFound, AreRulesOf, ReadsAs}
 use Rattle.zone_db.specs.declared.found.Found.{Found}
 use Rattle.zone_db.specs.declared.found.Found.TheVariants as found
-use Rattle.zone_db.proofs.ListLemmas.{AllByRecursion-contains}
+use Rattle.zone_build.proofs.ListLemmas.{AllByRecursion-contains}
 use Rattle.zone_db.proofs.SeekLemmas.{owned_in, in_owned}
-
--- the kind of a record of the ten kinds is that of its content
-pub kind_is : (c : Content) (kind class : ℕ) → IsTrue (belongs kind class c) → IsTrue (is_whole c) → kind ≡ kind_of c
-kind_is (content.A address) kind class b w = eqb-true kind a (and_parts (kind == a) (class == internet) b).0
-kind_is (content.Ns server) kind class b w = eqb-true kind ns (and_parts (kind == ns) (class == internet) b).0
-kind_is (content.Cname target) kind class b w = eqb-true kind cname (and_parts (kind == cname) (class == internet) b).0
-kind_is (content.Soa start) kind class b w = eqb-true kind soa (and_parts (kind == soa) (class == internet) b).0
-kind_is (content.Ptr name) kind class b w = eqb-true kind ptr (and_parts (kind == ptr) (class == internet) b).0
-kind_is (content.Mx preference exchange) kind class b w = eqb-true kind mx (and_parts (kind == mx) (class == internet) b).0
-kind_is (content.Txt texts) kind class b w = eqb-true kind txt (and_parts (kind == txt) (class == internet) (and_parts (kind == txt && class == internet) (nat_lt 0 (length texts)) b).0).0
-kind_is (content.Aaaa address) kind class b w = eqb-true kind aaaa (and_parts (kind == aaaa) (class == internet) b).0
-kind_is (content.Srv priority weight port target) kind class b w = eqb-true kind srv (and_parts (kind == srv) (class == internet) b).0
-kind_is (content.Naptr r) kind class b w = eqb-true kind naptr (and_parts (kind == naptr) (class == internet) b).0
-kind_is (content.Opt options) kind class b w = absurd (cc)
-kind_is (content.Raw bytes) kind class b w = absurd (cc)
 
 item_ns : (c : Content) → kind_of c ≡ ns → IsTrue (is_whole c) → item_of c ≡ delegation
 item_ns (content.A address) e w = absurd (omega (arith, e))
@@ -287,7 +271,7 @@ rising_end [] ys r = r
 rising_end (x ∷ xs) ys r = rising_end xs ys r.1
 
 two_rising : (one next : Record) (rest : List Record) → IsRising (one ∷ (next ∷ rest)) → AreRepeats one next → ⊥
-two_rising one next rest r same = cc (sym r.0.0, alike_equal Whole one next same)
+two_rising one next rest r same = cc (sym r.0.0, repeats_equal one next same)
 
 -- an alias that is found is one CNAME
 one_alias : (zone : Zone) (source : Labels) (before set behind : List Record) → IsValid zone → zone.records ≡ before ++ (set ++ behind) → AllByRecursion (IsIn source cname) set → ((one : Record) → Contains set one → Contains zone.records one) → 0 < length set → (one : Record) × (set ≡ one ∷ []) × Contains zone.records one × (one.kind ≡ cname)

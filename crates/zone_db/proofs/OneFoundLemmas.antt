@@ -7,17 +7,17 @@ use Rattle.naptr_data.proofs.BelowLemmas.{below_itself, below_same_top, length_s
 use Rattle.naptr_data.proofs.OfferLemmas.{one_source}
 use Rattle.dns_wire.specs.Kinds.{ns, cname}
 use Rattle.dns_wire.specs.declared.record.Record.{Record}
-use Rattle.zone_db.specs.Zone.{Zone, IsIn, IsSet, IsValid}
-use Rattle.zone_db.specs.Plain.{plain_of}
+use Rattle.zone_build.specs.Zone.{Zone, IsIn, IsSet, IsValid}
+use Rattle.zone_build.specs.Plain.{plain_of}
 use Rattle.zone_db.specs.Sets.{AreZones}
 use Rattle.zone_db.specs.LookUp.{Decides, IsHighestCut, HasKind, Answers, MeetsAlias, IsAnswered, IsStart, IsFound, Shown, outside, cut_of, alias_of, set_of, no_set, no_name, shown}
 use Rattle.zone_db.specs.Seeking.{IsUncut}
 use Rattle.zone_db.specs.declared.found.Found.{Found}
 use Rattle.zone_db.specs.declared.found.Found.TheVariants as found
-use Rattle.zone_db.proofs.ListLemmas.{AllByRecursion-contains}
+use Rattle.zone_build.proofs.ListLemmas.{AllByRecursion-contains}
 use Rattle.zone_db.proofs.SeekLemmas.{exists_below}
-use Rattle.zone_db.proofs.SizeLemmas.{one_set, set_same_name}
-use Rattle.zone_db.proofs.OneZoneLemmas.{one_soa}
+use Rattle.zone_build.proofs.SizeLemmas.{one_set, set_same_name}
+use Rattle.zone_build.proofs.OneZoneLemmas.{one_soa}
 
 -- what is shown at a source that exists, where no alias is met
 abbrev IsShownThere : Zone → Labels → ℕ → Shown → Type 0

@@ -8,7 +8,7 @@ use Rattle.dns_wire.specs.declared.content.Content.{Content}
 use Rattle.dns_wire.specs.declared.content.Content.TheVariants as content
 use Rattle.dns_wire.specs.declared.record.Record.{Record}
 use Rattle.zone_db.specs.LookUp.{AreRulesOf}
-use Rattle.zone_db.proofs.ListLemmas.{turn_of}
+use Rattle.zone_build.proofs.ListLemmas.{turn_of}
 use Rattle.std.proofs.lemmas.List.Elements.{Contains-append_left, Contains-append_right, Contains-append_cases}
 use Rattle.naptr_data.specs.Rank.{rank_of}
 use Rattle.naptr_data.specs.Rdata.{IsRule}

@@ -12,12 +12,12 @@ use Rattle.dns_name.specs.Name.{AreSame, IsBelow, IsName, IsLabel, folded_labels
 use Rattle.dns_name.proofs.NameLemmas.{wire_of-append, name_within-fits}
 use Rattle.dns_wire.specs.Kinds.{cname, soa}
 use Rattle.dns_wire.specs.declared.record.Record.{Record}
-use Rattle.zone_db.specs.Zone.{Zone, IsIn, IsSet, IsCanonical}
-use Rattle.zone_db.specs.Plain.{owned_of, plain_of}
+use Rattle.zone_build.specs.Zone.{Zone, IsIn, IsSet, IsCanonical}
+use Rattle.zone_build.specs.Plain.{owned_of, plain_of}
 use Rattle.zone_db.specs.LookUp.{IsHighestCut, HasKind, Answers, MeetsAlias, IsAnswered}
-use Rattle.zone_db.specs.Building.{least_of}
+use Rattle.zone_build.specs.Building.{least_of}
 use Rattle.zone_db.specs.Seeking.{IsClosest, CutsOff, IsHighest, IsLeastKind, IsUncut}
-use Rattle.zone_db.proofs.ListLemmas.{AllByRecursion-contains, only_one}
+use Rattle.zone_build.proofs.ListLemmas.{AllByRecursion-contains, only_one}
 
 -- records as they are told
 pub owned_in : (records : List Record) (one : Record) → Contains records one → Contains (map owned_of records) (owned_of one)

@@ -7,7 +7,7 @@ use Rattle.std.proofs.lemmas.List.Sums.{sum_by-append}
 use Rattle.naptr_data.proofs.CutLemmas.{Contains-head, Contains-behind}
 use Rattle.dns_name.specs.Name.{AreSame}
 use Rattle.dns_name.proofs.NameLemmas.{AllByRecursion-append}
-use Rattle.zone_db.specs.Zone.{Zone, IsValid}
+use Rattle.zone_build.specs.Zone.{Zone, IsValid}
 use Rattle.zone_db.specs.Sets.{HoldsApex, record_count, IsFull, AreApart, AreZones}
 
 abbrev size : Zone → ℕ

@@ -1,31 +1,9 @@
--- How the faults of zones and of sets of zones are printed (this project's own).
-use Rattle.std.specs.Prelude.{ℕ, List, ◌++◌, codes, decimal}
-use Rattle.dns_name.specs.Text.{text_of}
-use Rattle.naptr_data.specs.Zones.{Labels}
-use Rattle.enum_base.specs.Words.{fault_at}
-use Rattle.zone_db.specs.declared.fault.ZoneFault.{ZoneFault}
-use Rattle.zone_db.specs.declared.fault.ZoneFault.TheVariants as fault
+-- How the faults of sets of zones are printed (this project's own).
+use Rattle.std.specs.Prelude.{ℕ, List, codes}
 use Rattle.zone_db.specs.declared.fault.AddFault.{AddFault}
 use Rattle.zone_db.specs.declared.fault.AddFault.TheVariants as add
 
--- a fault by its name, and the name of an owner
-abbrev pub fault_of : List ℕ → Labels → List ℕ
-fault_of said owner = said ++ codes " " ++ text_of owner
-
--- a set that is too large, by its owner and its kind
-abbrev pub set_fault : Labels → ℕ → List ℕ
-set_fault owner kind = fault_of (codes "SetTooLarge") owner ++ codes " " ++ decimal kind
-
--- the name of a fault and its fields
-abbrev pub zone_fault : ZoneFault → List ℕ
-zone_fault fault.NoSoa = codes "NoSoa"
-zone_fault fault.TwoSoa = codes "TwoSoa"
-zone_fault (fault.OutOfZone place) = fault_at (codes "OutOfZone") place
-zone_fault (fault.AliasClash name) = fault_of (codes "AliasClash") name
-zone_fault (fault.SetTooLarge name kind) = set_fault name kind
-zone_fault (fault.WildcardCut name) = fault_of (codes "WildcardCut") name
-zone_fault fault.Memory = codes "Memory"
-
+-- the name of a fault
 abbrev pub add_fault : AddFault → List ℕ
 add_fault add.SameApex = codes "SameApex"
 add_fault add.Full = codes "Full"

@@ -1,44 +1,18 @@
--- Laws of zones.
-use Rattle.std.specs.Prelude.{◌≡◌, ◌≢◌, ◌⊎◌, ℕ, List, Contains}
+-- Laws of sets of zones, and of look-up in them.
+use Rattle.std.specs.Prelude.{◌≡◌, ◌≢◌, ◌⊎◌, ℕ, List}
 use Rattle.std.specs.List.{AllByRecursion}
 use Rattle.naptr_data.specs.Laws.{RulesAreApart}
 use Rattle.naptr_data.specs.Zones.{Labels, IsOffer}
 use Rattle.naptr_data.specs.declared.offer.Offer.{Offer}
 use Rattle.dns_wire.specs.Kinds.{naptr}
-use Rattle.dns_wire.specs.declared.record.Record.{Record}
-use Rattle.zone_db.specs.Zone.{Zone, IsPlain, IsValid}
-use Rattle.zone_db.specs.Built.{IsBuilt}
-use Rattle.zone_db.specs.Faults.{IsZoneFault}
+use Rattle.zone_build.specs.Zone.{Zone, IsValid}
 use Rattle.zone_db.specs.Sets.{AreZones, HoldsApex, IsFull, IsAddFault}
-use Rattle.zone_db.specs.Plain.{told}
+use Rattle.zone_build.specs.Plain.{told}
 use Rattle.zone_db.specs.LookUp.{IsFound, shown, ReadsAs}
 use Rattle.zone_db.specs.Offering.{IsReadable}
-use Rattle.zone_db.specs.declared.fault.ZoneFault.{ZoneFault}
-use Rattle.zone_db.specs.declared.fault.ZoneFault.TheVariants as fault
 use Rattle.zone_db.specs.declared.fault.AddFault.{AddFault}
 use Rattle.zone_db.specs.declared.fault.AddFault.TheVariants as add
 use Rattle.zone_db.specs.declared.found.Found.{Found}
-
--- records make one zone
-abbrev pub RecordsMakeOneZone : Type 0
-RecordsMakeOneZone = (given : List Record) (one other : Zone) → IsBuilt given one → IsBuilt given other → one ≡ other
-
--- records of the class and the kinds of zones make a valid zone or have a fault
-abbrev pub RecordsMakeAZoneOrHaveAFault : Type 0
-RecordsMakeAZoneOrHaveAFault =
-    (given : List Record) → ((one : Record) → Contains given one → IsPlain one)
-    → ((zone : Zone) × IsBuilt given zone × IsValid zone) ⊎ ((f : ZoneFault) × (f ≢ fault.Memory) × IsZoneFault given f)
-
--- want of memory aside, records have one fault
-abbrev pub RecordsHaveOneFault : Type 0
-RecordsHaveOneFault =
-    (given : List Record) (one other : ZoneFault) → IsZoneFault given one → IsZoneFault given other → one ≢ fault.Memory
-    → other ≢ fault.Memory → one ≡ other
-
--- records that make a valid zone have none
-abbrev pub BuiltRecordsHaveNoFault : Type 0
-BuiltRecordsHaveNoFault =
-    (given : List Record) (zone : Zone) (f : ZoneFault) → IsBuilt given zone → IsValid zone → IsZoneFault given f → f ≡ fault.Memory
 
 -- a zone has one fault by which it does not go into a set
 abbrev pub ZonesHaveOneAddFault : Type 0
@@ -51,7 +25,7 @@ ZonesFitOrHaveAnAddFault =
     (zones : List Zone) (zone : Zone)
     → (¬ HoldsApex zones zone.apex × ¬ IsFull zones zone) ⊎ ((f : AddFault) × (f ≢ add.Memory) × IsAddFault zones zone f)
 
--- a zone that fits has none but want of memory
+-- a zone that fits has none but that memory runs out
 abbrev pub FittingZonesHaveNoAddFault : Type 0
 FittingZonesHaveNoAddFault =
     (zones : List Zone) (zone : Zone) (f : AddFault) → ¬ HoldsApex zones zone.apex → ¬ IsFull zones zone → IsAddFault zones zone f

@@ -1,12 +1,6 @@
-pub mod Building
-pub mod Built
 pub mod FaultWords
-pub mod Faults
-pub mod Finding
 pub mod Laws
 pub mod LookUp
 pub mod Offering
-pub mod Plain
 pub mod Seeking
 pub mod Sets
-pub mod Zone

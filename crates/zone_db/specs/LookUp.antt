@@ -8,8 +8,8 @@ use Rattle.naptr_data.specs.declared.offer.Offer.TheVariants as offer
 use Rattle.dns_wire.specs.Kinds.{ns, cname, soa}
 use Rattle.dns_wire.specs.declared.content.Content.TheVariants as content
 use Rattle.dns_wire.specs.declared.record.Record.{Record}
-use Rattle.zone_db.specs.Zone.{Zone, IsIn, IsSet}
-use Rattle.zone_db.specs.Plain.{plain_of}
+use Rattle.zone_build.specs.Zone.{Zone, IsIn, IsSet}
+use Rattle.zone_build.specs.Plain.{plain_of}
 use Rattle.zone_db.specs.declared.found.Found.{Found}
 use Rattle.zone_db.specs.declared.found.Found.TheVariants as found
 

@@ -6,7 +6,7 @@ use Rattle.naptr_data.specs.Zones.{Labels}
 use Rattle.naptr_data.specs.declared.rule.Naptr.{Naptr}
 use Rattle.dns_wire.specs.declared.content.Content.TheVariants as content
 use Rattle.dns_wire.specs.declared.record.Record.{Record}
-use Rattle.zone_db.specs.Zone.{Zone}
+use Rattle.zone_build.specs.Zone.{Zone}
 use Rattle.zone_db.specs.declared.found.Found.{Found}
 use Rattle.zone_db.specs.declared.found.Found.TheVariants as found
 
@@ -15,7 +15,7 @@ pub record Asked : Type 0 where
   pub zones : List Zone
   pub asks : ℕ
 
--- a rule goes here among others: all before rank before it, and the next one behind it
+-- a rule goes here among others: all before rank before it, and the next one after it
 pub record IsPlace (rules : List Naptr) (rule : Naptr) (at : ℕ) : Type 0 where
   pub before : (k : ℕ) (d : Naptr) → k < at → rank_of (slice_index_or rules k d) rule ≡ Less
   pub behind : (d : Naptr) → at < length rules → rank_of (slice_index_or rules at d) rule ≡ Greater

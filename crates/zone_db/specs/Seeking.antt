@@ -4,8 +4,8 @@ use Rattle.dns_name.specs.Name.{AreSame, IsBelow}
 use Rattle.naptr_data.specs.Zones.{Labels, Exists, Encloses, IsSource}
 use Rattle.dns_wire.specs.Kinds.{ns, cname}
 use Rattle.dns_wire.specs.declared.record.Record.{Record}
-use Rattle.zone_db.specs.Zone.{Zone, IsSet}
-use Rattle.zone_db.specs.Plain.{plain_of}
+use Rattle.zone_build.specs.Zone.{Zone, IsSet}
+use Rattle.zone_build.specs.Plain.{plain_of}
 use Rattle.zone_db.specs.LookUp.{IsCut, IsHighestCut, HasKind, Answers, MeetsAlias, IsAnswered, IsStart}
 use Rattle.zone_db.specs.declared.found.Found.{Found}
 use Rattle.zone_db.specs.declared.found.Found.TheVariants as found

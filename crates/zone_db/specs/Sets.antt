@@ -3,7 +3,7 @@ use Rattle.std.specs.Prelude.{◌⊎◌, ℕ, ◌+◌, ◌<◌, ◌≤◌, List,
 use Rattle.std.specs.List.{AllByRecursion}
 use Rattle.dns_name.specs.Name.{AreSame}
 use Rattle.naptr_data.specs.Zones.{Labels}
-use Rattle.zone_db.specs.Zone.{Zone, IsValid}
+use Rattle.zone_build.specs.Zone.{Zone, IsValid}
 use Rattle.zone_db.specs.declared.fault.AddFault.{AddFault}
 use Rattle.zone_db.specs.declared.fault.AddFault.TheVariants as add
 

@@ -1,28 +1,26 @@
 //! What is answered from the records at a name.
-ghost use Rattle.std.specs.Prelude.{◌≡◌, ◌↔◌, ◌≤◌, IsTrue};
+ghost use Rattle.std.specs.Prelude.{◌≡◌, ◌↔◌, IsTrue};
 ghost use Rattle.zone_db.specs.LookUp.{Answers};
-ghost use Rattle.zone_db.specs.Building.{least_of};
+ghost use Rattle.zone_build.specs.Building.{least_of};
 ghost use Rattle.zone_db.specs.Seeking.{IsLeastKind, IsAnswer};
 
-use crate::find::set_of;
 use crate::found::Found;
-use crate::start::record_at;
-use crate::zone::Zone;
+use crate::start::start_of;
 use dns_name::Name;
 use dns_wire::Record;
+use zone_build::Zone;
 
 /// An alias, the set that was asked for, or the SOA where there is none.
 pub(crate) fn answer<'a>(zone: &'a Zone, source: &Name, asked: u16) -> Found<'a>
     ensures { IsAnswer zone.now source.now asked result }
 {
-    let records = zone.records();
-    let aliases = set_of(records, source, 5);
+    let aliases = zone.set(source, 5);
     if !answers(asked, 5) && aliases.len() > 0 {
         return Found::Alias(aliases);
     }
-    match least_kind(records, source, asked) {
-        Some(kind) => Found::Set(set_of(records, source, kind)),
-        None => Found::NoSet(record_at(records, 0)),
+    match least_kind(zone.records(), source, asked) {
+        Some(kind) => Found::Set(zone.set(source, kind)),
+        None => Found::NoSet(start_of(zone)),
     }
 }
 

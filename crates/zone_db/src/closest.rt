@@ -3,12 +3,12 @@ ghost use Rattle.std.specs.Prelude.{◌≡◌, ◌↔◌, ◌∷◌, IsTrue, Con
 ghost use Rattle.dns_name.specs.Name.{IsBelow, star};
 ghost use Rattle.naptr_data.specs.Zones.{Exists, Encloses};
 ghost use Rattle.dns_wire.specs.declared.record.Record.{Record};
-ghost use Rattle.zone_db.specs.Plain.{plain_of};
+ghost use Rattle.zone_build.specs.Plain.{plain_of};
 ghost use Rattle.zone_db.specs.Seeking.{IsClosest};
 
-use crate::zone::Zone;
 use dns_name::Name;
 use dns_wire::Record;
+use zone_build::Zone;
 
 /// Whether the name is the apex, or a record stands at or below it.
 pub(crate) fn exists(zone: &Zone, name: &Name) -> bool

@@ -1,11 +1,10 @@
 //! How many rules and CNAMEs zones hold.
-ghost use Rattle.std.specs.Prelude.{◌≡◌, ◌≤◌, length, map, if◌then◌else◌};
-ghost use Rattle.naptr_data.specs.Zones.{holds_one, rules_and_aliases, rules_and_aliases_in};
-ghost use Rattle.zone_db.specs.Plain.{item_of, owned_of, told};
+ghost use Rattle.std.specs.Prelude.{◌≡◌, ◌≤◌};
+ghost use Rattle.naptr_data.specs.Zones.{rules_and_aliases};
+ghost use Rattle.zone_build.specs.Plain.{told};
 ghost use Rattle.zone_db.specs.Sets.{AreZones};
 
-use crate::zone::Zone;
-use dns_wire::{Content, Record};
+use zone_build::Zone;
 
 /// The rules and CNAMEs of zones.
 pub(crate) fn count_in_zones(zones: &[Zone]) -> u32
@@ -18,24 +17,4 @@ pub(crate) fn count_in_zones(zones: &[Zone]) -> u32
         count += zone.rules_and_aliases() as u32;
     }
     count
-}
-
-/// The rules and CNAMEs among records.
-pub(crate) fn count_in(records: &[Record]) -> usize
-    ensures count { result ≡ rules_and_aliases_in (map owned_of records.now) }
-    ensures few { result ≤ length records.now }
-{
-    let mut count = 0;
-    for one in records {
-        if is_rule_or_alias(&one.content) {
-            count += 1;
-        }
-    }
-    count
-}
-
-fn is_rule_or_alias(said: &Content) -> bool
-    ensures { (if result then 1 else 0) ≡ holds_one (item_of said.now) }
-{
-    matches!(said, Content::Naptr(_) | Content::Cname(_))
 }

@@ -1,5 +1,5 @@
 //! Cuts of a zone (RFC 1034, 4.2.1).
-ghost use Rattle.std.specs.Prelude.{◌≡◌, ◌↔◌, ◌++◌, ◌∷◌, [], List, IsTrue};
+ghost use Rattle.std.specs.Prelude.{◌↔◌, ◌++◌, ◌∷◌, [], List, IsTrue};
 ghost use Rattle.std.specs.Option.{option_map};
 ghost use Rattle.dns_wire.specs.declared.record.Record.{Record};
 ghost use Rattle.zone_db.specs.Seeking.{CutsOff, IsHighest};

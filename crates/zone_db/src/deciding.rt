@@ -1,13 +1,13 @@
 //! The zone that decides of a name (RFC 1034, 4.3.2, step 2).
-ghost use Rattle.std.specs.Prelude.{◌≡◌, ◌++◌, ◌∷◌, [], List, Contains};
+ghost use Rattle.std.specs.Prelude.{◌++◌, ◌∷◌, [], List, Contains};
 ghost use Rattle.std.specs.Option.{option_map};
 ghost use Rattle.dns_name.specs.Name.{AreSame};
-ghost use Rattle.zone_db.specs.Zone as spec;
+ghost use Rattle.zone_build.specs.Zone as spec;
 ghost use Rattle.zone_db.specs.Sets.{AreZones};
 ghost use Rattle.zone_db.specs.LookUp.{IsDeciding};
 
-use crate::zone::Zone;
 use dns_name::Name;
+use zone_build::Zone;
 
 /// Of the zones with an apex at or above the name the one with the longest.
 pub(crate) fn deciding_zone<'a>(zones: &'a [Zone], name: &Name) -> Option<&'a Zone>

@@ -1,36 +1,4 @@
-//! Faults of zones and of sets of zones.
-use dns_name::Name;
-use enum_base::MemoryFault;
-
-/// Why records make no zone: the first that holds in this order.
-#[derive(Clone, Copy, Debug, PartialEq, Eq)]
-pub enum ZoneFault {
-    /// There is no SOA.
-    NoSoa,
-    /// There are two SOA records that differ in owner or in RDATA.
-    TwoSoa,
-    /// A record, the first by its place in the list, is not at or below the owner of the SOA.
-    OutOfZone { place: usize },
-    /// An owner, the first in the list, has a CNAME beside anything else.
-    AliasClash { name: Name },
-    /// A set, the first in canonical order, is too large: the sum of its RDATA, and 265 bytes a record, passes 60,000.
-    SetTooLarge { name: Name, kind: u16 },
-    /// An NS owner, the first in the list, has `*` as its first label.
-    WildcardCut { name: Name },
-    /// Memory is wanting.
-    Memory,
-}
-
-impl From<MemoryFault> for ZoneFault {
-    ghost use Rattle.std.specs.Prelude.{◌≡◌};
-    ghost use Rattle.zone_db.specs.declared.fault.ZoneFault.{ZoneFault};
-
-    ghost from_gives = { λ e f. f ≡ ZoneFault.Memory };
-
-    fn from(_: MemoryFault) -> Self {
-        ZoneFault::Memory
-    }
-}
+//! Faults of sets of zones.
 
 /// Why a zone does not go into a set: the first that holds in this order.
 #[derive(Clone, Copy, Debug, PartialEq, Eq)]
@@ -39,6 +7,6 @@ pub enum AddFault {
     SameApex,
     /// There are 64 zones, or there would be more than 400,000 records.
     Full,
-    /// Memory is wanting.
+    /// Out of memory.
     Memory,
 }

@@ -1,23 +1,7 @@
-//! Laws of zones.
-ghost use Rattle.zone_db.specs.Laws.{RecordsMakeOneZone, RecordsMakeAZoneOrHaveAFault, RecordsHaveOneFault, BuiltRecordsHaveNoFault, ZonesHaveOneAddFault, ZonesFitOrHaveAnAddFault, FittingZonesHaveNoAddFault, ZonesShowOneAnswer, FoundIsOffered, FoundIsReadable, ToldRulesAreApart};
+//! Laws of sets of zones, and of look-up in them.
+ghost use Rattle.zone_db.specs.Laws.{ZonesHaveOneAddFault, ZonesFitOrHaveAnAddFault, FittingZonesHaveNoAddFault, ZonesShowOneAnswer, FoundIsOffered, FoundIsReadable, ToldRulesAreApart};
 
-/// Records make one zone.
-pub fn one_zone()
-    ensures { RecordsMakeOneZone }
-{}
-
-/// Records make a valid zone or have a fault, as long as they are of the class and the kinds of zones.
-pub fn zone_or_fault()
-    ensures { RecordsMakeAZoneOrHaveAFault }
-{}
-
-/// Want of memory aside, records have one fault, and none where they make a valid zone.
-pub fn one_zone_fault()
-    ensures one { RecordsHaveOneFault }
-    ensures none { BuiltRecordsHaveNoFault }
-{}
-
-/// A zone fits into a set or has one fault by which it does not go into it, and none but want of memory where it fits.
+/// A zone fits into a set or has one fault by which it does not go into it, and none but `Memory` where it fits.
 pub fn one_add_fault()
     ensures some { ZonesFitOrHaveAnAddFault }
     ensures one { ZonesHaveOneAddFault }

@@ -1,28 +1,25 @@
 //! Look-up in one zone (RFC 1034, 4.3.2; RFC 4592).
-ghost use Rattle.std.specs.Prelude.{◌≡◌};
 ghost use Rattle.dns_name.specs.Name.{IsBelow};
 ghost use Rattle.naptr_data.specs.Zones.{IsSource};
-ghost use Rattle.zone_db.specs.Plain.{plain_of};
+ghost use Rattle.zone_build.specs.Plain.{plain_of};
 ghost use Rattle.zone_db.specs.Seeking.{IsFoundIn, IsUncut};
 
 use crate::answer::answer;
 use crate::closest::{closest, exists, wildcard_before};
 use crate::cut::highest_cut;
-use crate::find::set_of;
 use crate::found::Found;
-use crate::start::record_at;
-use crate::zone::Zone;
+use crate::start::start_of;
 use dns_name::Name;
+use zone_build::Zone;
 
 /// What is found for a name at or below the apex.
 pub(crate) fn found_in<'a>(zone: &'a Zone, name: &Name, asked: u16) -> Found<'a>
     requires { IsBelow name.now zone.now.apex }
     ensures { IsFoundIn zone.now name.now asked result }
 {
-    let records = zone.records();
     let apex = zone.apex();
-    match highest_cut(records, &apex, name) {
-        Some(cut) => Found::Cut(set_of(records, &cut.owner, 2)),
+    match highest_cut(zone.records(), &apex, name) {
+        Some(cut) => Found::Cut(zone.set(&cut.owner, 2)),
         None => found_at(zone, name, &source_of(zone, name), asked),
     }
 }
@@ -48,5 +45,5 @@ fn found_at<'a>(zone: &'a Zone, name: &Name, source: &Name, asked: u16) -> Found
     if exists(zone, source) {
         return answer(zone, source, asked);
     }
-    Found::NoName(record_at(zone.records(), 0))
+    Found::NoName(start_of(zone))
 }

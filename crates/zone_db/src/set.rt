@@ -1,16 +1,17 @@
 //! Sets of zones.
-ghost use Rattle.std.specs.Prelude.{◌≡◌, ◌↔◌, ◌⊎◌, ◌<◌, ◌≤◌, ◌+◌, ◌++◌, ◌∷◌, [], IsTrue, OnOk, OnErr, IfErr, length};
+ghost use Rattle.std.specs.Prelude.{◌≡◌, ◌↔◌, ◌<◌, ◌≤◌, ◌+◌, ◌++◌, ◌∷◌, [], IsTrue, OnOk, OnErr, IfErr};
 ghost use Rattle.std.specs.Option.{option_map};
+ghost use Rattle.zone_db.specs.Sets.{AreZones, HoldsApex, IsFull, record_count};
 
 use crate::count::count_in_zones;
 use crate::deciding::deciding_zone;
 use crate::fault::AddFault;
 use crate::found::Found;
 use crate::lookup::found_in;
-use crate::zone::Zone;
 use dns_name::Name;
 use std::alloc::Global;
 use std::marker::Model;
+use zone_build::Zone;
 
 /// At most 64 zones with distinct apexes and at most 400,000 records.
 #[derive(Drop)]
@@ -20,7 +21,7 @@ pub struct ZoneSet {
 
 impl Model for ZoneSet {
     ghost use Rattle.std.specs.Prelude.{List};
-    ghost use Rattle.zone_db.specs.Zone.{Zone};
+    ghost use Rattle.zone_build.specs.Zone.{Zone};
     ghost use Rattle.zone_db.specs.Sets.{AreZones};
 
     ghost Value = { List Zone };
@@ -34,7 +35,7 @@ impl ZoneSet {
     ghost use Rattle.zone_db.specs.Sets.{AreZones, HoldsApex, IsFull, IsAddFault};
     ghost use Rattle.naptr_data.specs.Zones.{rules_and_aliases};
     ghost use Rattle.zone_db.specs.LookUp.{IsDeciding, IsFound};
-    ghost use Rattle.zone_db.specs.Plain.{told};
+    ghost use Rattle.zone_build.specs.Plain.{told};
 
     /// No zones; this takes no memory.
     pub fn new(alloc: Global) -> ZoneSet
@@ -53,7 +54,7 @@ impl ZoneSet {
         self.zones.as_slice()
     }
 
-    /// Adds a zone behind the others.
+    /// Adds a zone after the others.
     ///
     /// # Errors
     /// The first `AddFault` that holds, and the zone.
@@ -101,9 +102,6 @@ impl ZoneSet {
         }
     }
 }
-
-ghost use Rattle.zone_db.specs.Zone as spec;
-ghost use Rattle.zone_db.specs.Sets.{AreZones, HoldsApex, IsFull, record_count};
 
 // Whether a zone of that apex is among the zones.
 fn holds_apex(zones: &[Zone], apex: &Name) -> bool

@@ -5,7 +5,7 @@ ghost use Rattle.naptr_data.specs.Zones.{Labels, IsOffer};
 ghost use Rattle.dns_wire.specs.declared.content.Content.TheVariants as content;
 ghost use Rattle.dns_wire.specs.declared.record.Record.{Record};
 ghost use Rattle.zone_db.specs.LookUp.{ReadsAs};
-ghost use Rattle.zone_db.specs.Plain.{told};
+ghost use Rattle.zone_build.specs.Plain.{told};
 ghost use Rattle.zone_db.specs.Offering.{IsReadable};
 
 use crate::found::Found;
@@ -45,7 +45,7 @@ impl<'a> ZoneSource<'a> {
 
 impl<'a> RuleSource for ZoneSource<'a> {
     ghost use Rattle.std.specs.Prelude.{Some, [], false};
-    ghost use Rattle.zone_db.specs.Plain.{told};
+    ghost use Rattle.zone_build.specs.Plain.{told};
 
     ghost state = { λ s. record {
       zones = Some (told s.zones);
@@ -64,7 +64,7 @@ impl<'a> RuleSource for ZoneSource<'a> {
     }
 }
 
-// What the zones offer for the name. Want of memory is the one fault.
+// What the zones offer for the name. The one fault is `Memory`.
 fn offer_of(alloc: Global, zones: &ZoneSet, name: &Name) -> Result<Offer, SourceFault>
     ensures offered { IfOk result (IsOffer (told zones.now) name.now) }
     ensures few { IfOk result HasFewRules }

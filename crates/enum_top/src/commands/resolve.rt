@@ -5,7 +5,7 @@ ghost use Rattle.ddds_walk.specs.Report.{Answers};
 ghost use Rattle.ddds_walk.specs.Rules.{client_of};
 ghost use Rattle.request_words.specs.Words.{texts_of};
 ghost use Rattle.service_field.specs.Wanted.{wanted_text};
-ghost use Rattle.zone_db.specs.Plain.{told};
+ghost use Rattle.zone_build.specs.Plain.{told};
 ghost use Rattle.enum_top.specs.Applications.{Asks};
 ghost use Rattle.enum_top.specs.Resolving.{Resolves, client_for, ending_of};
 ghost use Rattle.enum_top.specs.Running.{DoesOnShelf, ReadsShelf, asked_of};

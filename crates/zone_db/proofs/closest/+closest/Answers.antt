@@ -1,6 +1,6 @@
 use Rattle.std.proofs.Common.{inl, refl, arith}
 use Rattle.naptr_data.specs.Zones.{Exists}
-use Rattle.zone_db.specs.Plain.{plain_of}
+use Rattle.zone_build.specs.Plain.{plain_of}
 use Rattle.zone_db.proofs.SeekLemmas.{above_inside, root_exists, shorter_above, closest_further}
 use Rattle.zone_db.proofs.closest.+closest.Goals as goal
 

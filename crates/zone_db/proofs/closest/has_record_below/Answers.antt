@@ -1,7 +1,7 @@
 use Rattle.std.proofs.Common.{inl, inr, refl, subst}
 use Rattle.dns_name.specs.Name.{IsBelow}
 use Rattle.dns_wire.specs.declared.record.Record.{Record}
-use Rattle.zone_db.proofs.ListLemmas.{turn_of, turned_all, read_in}
+use Rattle.zone_build.proofs.ListLemmas.{turn_of, turned_all, read_in}
 use Rattle.zone_db.proofs.closest.has_record_below.Goals as goal
 
 pub returns-then-is_below : goal.returns-then-is_below

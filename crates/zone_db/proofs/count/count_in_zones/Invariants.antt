@@ -1,6 +1,6 @@
 use Rattle.std.proofs.Common.{◌≡◌, ◌≤◌, take}
 use Rattle.naptr_data.specs.Zones.{rules_and_aliases}
-use Rattle.zone_db.specs.Plain.{told}
+use Rattle.zone_build.specs.Plain.{told}
 use Rattle.zone_db.specs.Sets.{record_count}
 use Rattle.zone_db.proofs.count.count_in_zones.Given as goal
 

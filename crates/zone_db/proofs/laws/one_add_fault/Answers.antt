@@ -1,4 +1,4 @@
-use Rattle.zone_db.proofs.OneFaultLemmas.{fits_or_fault, one_add_fault, no_add_fault}
+use Rattle.zone_db.proofs.AddFaultLemmas.{fits_or_fault, one_add_fault, no_add_fault}
 use Rattle.zone_db.proofs.laws.one_add_fault.Goals as goal
 
 pub returns-clause-some : goal.returns-clause-some

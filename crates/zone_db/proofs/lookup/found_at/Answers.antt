@@ -1,6 +1,4 @@
-use Rattle.std.proofs.Common.{◌≡◌, List, get_or, refl, subst}
-use Rattle.dns_wire.specs.declared.record.Record.{Record}
-use Rattle.zone_db.proofs.SeekLemmas.{start_first}
+use Rattle.std.proofs.Common.{refl}
 use Rattle.zone_db.proofs.FoundLemmas.{answered_found}
 use Rattle.zone_db.proofs.lookup.found_at.Goals as goal
 
@@ -10,4 +8,4 @@ returns-then-exists c =
 
 pub returns : goal.returns
 returns c =
-    (c.args.source.now, c.requires.uncut, c.requires.source, (λ e. absurd (cc (c.if-exists.ensures.1 e))), start_first c.args.zone.now.records c.record_at.result.now c.records.ensures.valid.order (subst (λ (xs : List Record). c.record_at.result.now ≡ get_or xs 0 c.record_at.result.now) c.records.ensures.records c.record_at.ensures))
+    (c.args.source.now, c.requires.uncut, c.requires.source, (λ e. absurd (cc (c.if-exists.ensures.1 e))), c.start_of.ensures)

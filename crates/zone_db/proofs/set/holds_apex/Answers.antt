@@ -1,7 +1,7 @@
 use Rattle.std.proofs.Common.{inl, inr, refl, sym, subst}
 use Rattle.dns_name.specs.Name.{AreSame}
-use Rattle.zone_db.specs.Zone.{Zone}
-use Rattle.zone_db.proofs.ListLemmas.{turn_of, turned_all, read_in}
+use Rattle.zone_build.specs.Zone.{Zone}
+use Rattle.zone_build.proofs.ListLemmas.{turn_of, turned_all, read_in}
 use Rattle.zone_db.proofs.set.holds_apex.Goals as goal
 
 pub returns-then-same : goal.returns-then-same

@@ -1,7 +1,7 @@
 use Rattle.std.proofs.Common.{◌∙◌, Err, ap, sym}
 use Rattle.naptr_data.specs.Zones.{rules_and_aliases}
 use Rattle.zone_db.specs.Offering.{Asked}
-use Rattle.zone_db.specs.Plain.{told}
+use Rattle.zone_build.specs.Plain.{told}
 use Rattle.enum_top.proofs.Walks.{no_more}
 use Rattle.enum_top.proofs.commands.resolve.walk_as.Goals as goal
 

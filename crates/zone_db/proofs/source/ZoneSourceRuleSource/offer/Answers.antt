@@ -2,8 +2,8 @@ use Rattle.std.proofs.Common.{List, ap, subst}
 use Rattle.std.specs.Prelude.{IfOk}
 use Rattle.dns_name.specs.Name.{folded_labels}
 use Rattle.naptr_data.specs.Zones.{IsOffer}
-use Rattle.zone_db.specs.Zone.{Zone}
-use Rattle.zone_db.specs.Plain.{told}
+use Rattle.zone_build.specs.Zone.{Zone}
+use Rattle.zone_build.specs.Plain.{told}
 use Rattle.zone_db.specs.Offering.{Asked}
 use Rattle.zone_db.proofs.KeepLemmas.{keeps_none}
 use Rattle.zone_db.proofs.source.ZoneSourceRuleSource.offer.Goals as goal

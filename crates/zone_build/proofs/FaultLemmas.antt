@@ -1,0 +1,97 @@
+-- What each stage of building says of the given records.
+use Rattle.std.proofs.Common.{◌≡◌, ℕ, ◌+◌, ◌<◌, ◌≤◌, List, [], ◌∷◌, ◌++◌, length, take, drop, get_or, Some, None, sym, ap, subst, ◌∙◌, arith}
+use Rattle.std.specs.Prelude.{Contains}
+use Rattle.naptr_data.specs.Zones.{Labels}
+use Rattle.dns_name.specs.Name.{IsBelow, folded_labels}
+use Rattle.dns_wire.specs.declared.record.Record.{Record}
+use Rattle.zone_build.specs.Zone.{Zone, IsCanonical, IsRising}
+use Rattle.zone_build.specs.Built.{IsBuilt}
+use Rattle.zone_build.specs.Faults.{IsFirst, IsWildcardCut, IsLarge, AreInside, AreUnmixed, IsZoneFault}
+use Rattle.zone_build.specs.Building.{Given, AreGivens, IsFirstMixed, IsFirstLarge, IsApex, IsEntryApex, IsStartFault, IsKeptList}
+use Rattle.zone_build.specs.declared.fault.ZoneFault.{ZoneFault}
+use Rattle.zone_build.specs.declared.fault.ZoneFault.TheVariants as fault
+use Rattle.zone_build.proofs.BuildLemmas.{no_start, has_start, one_start, start_repeats, apex_of, inside_of, outside_first, unmixed_of, mixed_first, built_of}
+use Rattle.zone_build.proofs.LargeLemmas.{first_at_start, first_behind, none_at_all}
+
+pub start_fault : (given : List Record) (entries : List Given) (f : ZoneFault) → AreGivens given entries → IsStartFault entries f → IsZoneFault given f
+start_fault given entries fault.NoSoa are none = no_start given entries are none
+start_fault given entries fault.TwoSoa are (start, c, k, not) =
+    (has_start given entries start are c k, λ one. not (start_repeats given entries start are c k one))
+start_fault given entries (fault.OutOfZone place) are h = absurd h
+start_fault given entries (fault.AliasClash name) are h = absurd h
+start_fault given entries (fault.SetTooLarge name kind) are h = absurd h
+start_fault given entries (fault.WildcardCut name) are h = absurd h
+start_fault given entries fault.Memory are h = absurd h
+
+is_apex : (given : List Record) (entries : List Given) (apex : Labels) → AreGivens given entries → IsEntryApex entries apex → IsApex given apex
+is_apex given entries apex are (start, c, k, is, all) = apex_of given entries start apex are c k is (one_start given entries start are all)
+
+pub outside_fault : (given : List Record) (entries : List Given) (apex : Labels) (place : ℕ) → AreGivens given entries → IsEntryApex entries apex → (one : Record) × IsFirst (λ r. ¬ IsBelow r.owner apex) given place one → IsZoneFault given (fault.OutOfZone place)
+outside_fault given entries apex place are e (one, f) =
+    let has = has_start given entries e.0 are e.1 e.2 in
+    (has, one_start given entries e.0 are e.4, (one, outside_first given apex place one has (is_apex given entries apex are e) f))
+
+pub all_inside : (given : List Record) (entries : List Given) (apex : Labels) → AreGivens given entries → IsEntryApex entries apex → ((one : Record) → Contains given one → IsBelow one.owner apex) → AreInside given
+all_inside given entries apex are e below = record {
+  some = has_start given entries e.0 are e.1 e.2;
+  one = one_start given entries e.0 are e.4;
+  inside = λ one c. inside_of given apex (is_apex given entries apex are e) one (below one c);
+}
+
+pub mixed_fault : (given : List Record) (entries : List Given) (apex : Labels) (place : ℕ) (x : Record) (name : Labels) → AreGivens given entries → IsEntryApex entries apex → ((one : Record) → Contains given one → IsBelow one.owner apex) → IsFirstMixed entries (Some place) → place < length given → x ≡ get_or given place x → name ≡ folded_labels x.owner → IsZoneFault given (fault.AliasClash name)
+mixed_fault given entries apex place x name are e below mixed within is named =
+    (all_inside given entries apex are e below, (place, x, named, mixed_first given entries place x are mixed within is))
+
+pub unmixed_apex : (given : List Record) (entries : List Given) (apex : Labels) → AreGivens given entries → IsEntryApex entries apex → ((one : Record) → Contains given one → IsBelow one.owner apex) → IsFirstMixed entries None → AreUnmixed given × IsApex given apex
+unmixed_apex given entries apex are e below none =
+    (record { inside = all_inside given entries apex are e below; unmixed = unmixed_of given entries are none }, is_apex given entries apex are e)
+
+-- the first large set of canonical records, by that of the SOA and that of the others
+pub large_at_start : (kept start : List Record) (place : ℕ) → IsCanonical kept → start ≡ take 1 kept → IsFirstLarge start (Some place) → IsFirstLarge kept (Some 0)
+large_at_start [] start place c is f = absurd c
+large_at_start (a ∷ others) start place c is f = first_at_start a others place c (subst (λ l. IsFirstLarge l (Some place)) is f)
+
+pub large_behind_start : (kept start others : List Record) (place : ℕ) → IsCanonical kept → start ≡ take 1 kept → others ≡ drop 1 kept → IsFirstLarge start None → IsFirstLarge others (Some place) → IsFirstLarge kept (Some (place + 1))
+large_behind_start [] start others place c is is' none f = absurd c
+large_behind_start (a ∷ rest) start others place c is is' none f =
+    first_behind a rest place c (subst (λ l. IsFirstLarge l None) is none) (subst (λ l. IsFirstLarge l (Some place)) is' f)
+
+pub large_nowhere : (kept start others : List Record) → IsCanonical kept → start ≡ take 1 kept → others ≡ drop 1 kept → IsFirstLarge start None → IsFirstLarge others None → IsFirstLarge kept None
+large_nowhere [] start others c is is' none f = absurd c
+large_nowhere (a ∷ rest) start others c is is' none f = none_at_all a rest c (subst (λ l. IsFirstLarge l None) is none) (subst (λ l. IsFirstLarge l None) is' f)
+
+pub canonical_rising : (kept start : List Record) → IsCanonical kept → start ≡ take 1 kept → IsRising start
+canonical_rising [] start c is = absurd c
+canonical_rising (a ∷ others) start c is = subst IsRising (sym is) (tt, tt)
+
+pub canonical_others : (kept others : List Record) → IsCanonical kept → others ≡ drop 1 kept → IsRising others
+canonical_others [] others c is = absurd c
+canonical_others (a ∷ rest) others c is = subst IsRising (sym is) c.2
+
+pub canonical_some : (kept : List Record) → IsCanonical kept → 1 ≤ length kept
+canonical_some [] c = absurd c
+canonical_some (a ∷ others) c = omega arith
+
+at_middle : (before : List Record) (one : Record) (behind : List Record) (x : Record) → x ≡ get_or (before ++ one ∷ behind) (length before) x → x ≡ one
+at_middle [] one behind x is = is
+at_middle (b ∷ before) one behind x is = at_middle before one behind x is
+
+-- the first is the one that stands at its place
+pub first_at : (P : Record → Type 0) (xs : List Record) (place : ℕ) (one x : Record) → IsFirst P xs place one → x ≡ get_or xs place x → x ≡ one
+first_at P xs place one x f is =
+    at_middle f.before one f.behind x (subst (λ n. x ≡ get_or (f.before ++ one ∷ f.behind) n x) (sym f.at) (subst (λ l. x ≡ get_or l place x) f.parts is))
+
+pub large_fault : (given : List Record) (zone : Zone) (place : ℕ) (x : Record) → AreUnmixed given → IsBuilt given zone → IsFirstLarge zone.records (Some place) → x ≡ get_or zone.records place x → IsZoneFault given (fault.SetTooLarge x.owner x.kind)
+large_fault given zone place x free built (one, f) is =
+    let same = first_at (IsLarge zone.records) zone.records place one x f is in
+    (free, (zone, place, one, built, ap (λ (r : Record). r.owner) same, ap (λ (r : Record). r.kind) same, f))
+
+pub wild_fault : (given : List Record) (zone : Zone) (place : ℕ) (x : Record) (name : Labels) → AreUnmixed given → IsBuilt given zone → IsFirstLarge zone.records None → (one : Record) × IsFirst IsWildcardCut given place one → x ≡ get_or given place x → name ≡ folded_labels x.owner → IsZoneFault given (fault.WildcardCut name)
+wild_fault given zone place x name free built small (one, f) is named =
+    let same = first_at IsWildcardCut given place one x f is in
+    (free, (zone, built, small), (place, one, named ∙ ap (λ (r : Record). folded_labels r.owner) same, f))
+
+-- the kept list makes the built zone
+pub built_list : (given : List Record) (entries : List Given) (apex : Labels) (kept : List Record) → AreGivens given entries → AreUnmixed given → IsApex given apex → IsKeptList entries kept → IsBuilt given (record { apex = apex; records = kept })
+built_list given entries apex kept are free is (first, others, parts, a, b) =
+    subst (λ l. IsBuilt given (record { apex = apex; records = l })) (sym parts) (built_of given entries apex first others are free.inside.some free.inside.one is a b)

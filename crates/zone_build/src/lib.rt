@@ -1,0 +1,25 @@
+//! Zones of given records (RFC 1034, 4.2).
+#![tactic(auto)]
+
+mod build;
+mod clash;
+mod count;
+mod entry;
+mod fault;
+mod find;
+mod front;
+mod key;
+mod laws;
+mod merge;
+mod order;
+mod rdata_order;
+mod run;
+mod size;
+mod sort;
+mod start;
+mod words;
+mod zone;
+
+pub use fault::ZoneFault;
+pub use laws::{one_zone, one_zone_fault, zone_or_fault};
+pub use zone::Zone;

@@ -1,5 +1,0 @@
-use Rattle.zone_db.proofs.OneZoneLemmas.{one_built}
-use Rattle.zone_db.proofs.laws.one_zone.Goals as goal
-
-pub returns : goal.returns
-returns c = one_built

@@ -1,8 +1,0 @@
-use Rattle.zone_db.proofs.OneFaultLemmas.{one_fault, no_fault}
-use Rattle.zone_db.proofs.laws.one_zone_fault.Goals as goal
-
-pub returns-clause-one : goal.returns-clause-one
-returns-clause-one c = one_fault
-
-pub returns-clause-none : goal.returns-clause-none
-returns-clause-none c = no_fault

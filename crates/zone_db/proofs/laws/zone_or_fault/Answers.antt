@@ -1,5 +1,0 @@
-use Rattle.zone_db.proofs.MakeZoneLemmas.{zone_or_fault}
-use Rattle.zone_db.proofs.laws.zone_or_fault.Goals as goal
-
-pub returns : goal.returns
-returns c = zone_or_fault
