@@ -1,5 +1,4 @@
 //! Edges between domains.
-ghost use Rattle.std.specs.Prelude.{◌≡◌, IfOk};
 
 use crate::report::Outcome;
 use dns_name::Name;

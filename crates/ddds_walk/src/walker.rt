@@ -1,12 +1,12 @@
 //! A walk under way.
-ghost use Rattle.std.specs.Prelude.{◌≡◌, ◌≢◌, ◌↔◌, ◌⊎◌, ◌≤◌, ◌<◌, ◌+◌, [], ◌∷◌, ◌++◌, length, slice_get, drop, filter_map, option_to_list, Contains, IsTrue, Some, None, IfOk, OnOk};
+ghost use Rattle.std.specs.Prelude.{◌≡◌, ◌≢◌, ◌↔◌, ◌≤◌, ◌<◌, ◌+◌, [], ◌∷◌, ◌++◌, length, slice_get, filter_map, option_to_list, Contains, IsTrue, Some, None, IfOk, OnOk};
 ghost use Rattle.dns_name.specs.Name.{folded_labels};
 ghost use Rattle.naptr_data.specs.Sources.{AreDistinct, HasFewRules};
 ghost use Rattle.naptr_data.specs.declared.offer.Offer.TheVariants as Offer;
 ghost use Rattle.ddds_walk.specs.Clients.{meant};
 ghost use Rattle.ddds_walk.specs.Turns.{IsSound, IsAtStep, IsAtStop, IsOnTheWay, HasAsked, HasMoved, HasTurned, IsNextEnd};
 ghost use Rattle.ddds_walk.specs.Turns.{Notes, Opens, Sees, derivation_of};
-ghost use Rattle.ddds_walk.specs.Ways.{path_of, domains_of};
+ghost use Rattle.ddds_walk.specs.Ways.{domains_of};
 ghost use Rattle.ddds_walk.specs.declared.edge.Edge.TheVariants.{Step};
 ghost use Rattle.ddds_walk.specs.declared.walker.Turn.TheVariants as Turn;
 

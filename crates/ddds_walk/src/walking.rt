@@ -1,14 +1,14 @@
 //! The walk.
-ghost use Rattle.std.specs.Prelude.{◌≡◌, ◌≤◌, ◌<◌, ◌+◌, ℕ, List, length, Err, IfOk, OnOk, IsTrue};
+ghost use Rattle.std.specs.Prelude.{◌≡◌, ◌≤◌, ◌<◌, ◌+◌, ℕ, Err, IfOk, OnOk, IsTrue};
 ghost use Rattle.enum_base.specs.Causes.{Rose};
 ghost use Rattle.enum_base.specs.Outside.{WhereTold};
 ghost use Rattle.dns_name.specs.Name.{folded_labels};
-ghost use Rattle.naptr_data.specs.Zones.{Labels, rules_and_aliases};
+ghost use Rattle.naptr_data.specs.Zones.{rules_and_aliases};
 ghost use Rattle.service_field.specs.Wanted.{wanted_text};
 ghost use Rattle.ddds_walk.specs.Clients.{meant};
 ghost use Rattle.ddds_walk.specs.Rules.{client_of};
 ghost use Rattle.ddds_walk.specs.Graph.{graph_of};
-ghost use Rattle.ddds_walk.specs.Report.{Answers, AreSomeNeeded};
+ghost use Rattle.ddds_walk.specs.Report.{Answers};
 ghost use Rattle.ddds_walk.specs.Asking.{IsWhole, AsksNeeded, AsksAll, AsksAtMost, NeedsMore, IsLimit, more};
 ghost use Rattle.ddds_walk.specs.Asking.{FetchesEnough, FetchesMissing};
 ghost use Rattle.ddds_walk.specs.Turns.{HasWalked};

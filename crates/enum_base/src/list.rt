@@ -39,6 +39,13 @@ impl<T> List<T> {
         self.items.as_slice()
     }
 
+    /// The items, in a `Vec` that takes no further memory.
+    pub fn into_items(self) -> Vec<T>
+        ensures { result.items ≡ self }
+    {
+        self.items
+    }
+
     /// Takes the last item away.
     pub fn pop(&mut self) -> Option<T>
         ensures { MatchOption result ((self.old ≡ []) × (self.new ≡ [])) (λ last. self.old ≡ self.new ++ last ∷ []) }

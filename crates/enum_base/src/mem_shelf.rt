@@ -1,5 +1,5 @@
 //! A shelf in memory.
-ghost use Rattle.std.specs.Prelude.{◌≡◌, ◌↔◌, ◌<◌, ◌≤◌, min, [], ◌∷◌, ◌++◌, take, drop, length, position, bytes_eq, Contains, Option, Some, IsSome, unwrap_or, IsErr, IfOk, OnOk, OnErr};
+ghost use Rattle.std.specs.Prelude.{◌≡◌, ◌↔◌, ◌<◌, ◌≤◌, [], ◌∷◌, ◌++◌, take, drop, length, position, bytes_eq, Contains, Option, Some, IsSome, unwrap_or, IsErr, IfOk, OnOk, OnErr};
 ghost use Rattle.enum_base.specs.Causes.{HasCause, one_more};
 ghost use Rattle.enum_base.specs.Outside.{Finds, Opens, AreFirst, EndsAtEnd, after, file_of};
 ghost use Rattle.enum_base.specs.Memory.{ReadsListed, chosen_bytes, IsPlace};

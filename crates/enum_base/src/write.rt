@@ -1,5 +1,5 @@
 //! Whole pieces into a sink.
-ghost use Rattle.std.specs.Prelude.{◌≡◌, ◌++◌, OnOk};
+ghost use Rattle.std.specs.Prelude.{◌++◌, OnOk};
 ghost use Rattle.enum_base.specs.Causes.{HasCause};
 ghost use Rattle.enum_base.specs.Writing.{Gains, Takes};
 

@@ -1,5 +1,5 @@
 //! What is ill-formed, and the line that tells it.
-ghost use Rattle.std.specs.Prelude.{◌≡◌, ◌++◌, codes};
+ghost use Rattle.std.specs.Prelude.{◌++◌, codes};
 ghost use Rattle.enum_base.specs.Writing.{Takes};
 ghost use Rattle.request_words.specs.Words.{texts_of};
 ghost use Rattle.enum_top.specs.FaultLines.{cause_line, file_line};

@@ -1,5 +1,5 @@
 //! The words of a command.
-ghost use Rattle.std.specs.Prelude.{◌≡◌, ℕ, List, IfOk, Ok, string_bytes, bytes_eq, find, option_map, zip};
+ghost use Rattle.std.specs.Prelude.{◌≡◌, IfOk, Ok, string_bytes, bytes_eq, find, option_map, zip};
 ghost use Rattle.std.specs.List.{list_all};
 ghost use Rattle.std.specs.Result.{result_ok};
 ghost use Rattle.request_words.specs.Reading.{are_chosen, are_options, begin_with, entry_in, fits, is_often, is_option, options_in, request_in, request_of, size_of};

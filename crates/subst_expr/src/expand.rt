@@ -1,7 +1,5 @@
 //! The replacement of a substitution, expanded.
-ghost use Rattle.std.specs.Prelude.{◌≡◌, ◌≤◌, ◌++◌, ◌==◌, ◌&&◌, not, false, length, IfOk, OnOk};
-ghost use Rattle.submatch.specs.Groups.{MatchSpans};
-ghost use Rattle.subst_expr.specs.Pieces.{backslash};
+ghost use Rattle.std.specs.Prelude.{◌≡◌, ◌≤◌, ◌++◌, ◌==◌, ◌&&◌, false, length, IfOk, OnOk};
 ghost use Rattle.subst_expr.specs.Replacement.{is_group_digit, pair_given, taken};
 ghost use Rattle.subst_expr.specs.Scans.{expansion_from, missing_from};
 

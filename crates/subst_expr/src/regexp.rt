@@ -1,5 +1,5 @@
 //! Well-formed rules: the text splits, its expression has a tree, and each back reference names a group of it.
-ghost use Rattle.std.specs.Prelude.{◌≡◌, ◌≢◌, ◌⊎◌, ◌≤◌, Err, IfOk, length};
+ghost use Rattle.std.specs.Prelude.{◌≡◌, ◌≢◌, ◌⊎◌, Err, IfOk};
 ghost use Rattle.std.specs.Result.{IfErr};
 ghost use Rattle.posix_ere.specs.Nodes.{whole};
 ghost use Rattle.subst_expr.specs.Regexp.{IsRegexp, IsWellFormed, IsRegexpFault, ere_fault};

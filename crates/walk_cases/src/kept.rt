@@ -1,5 +1,5 @@
 //! Two names at most, the last asked first.
-ghost use Rattle.std.specs.Prelude.{◌≡◌, ◌∷◌, List, take, Contains, IsTrue, ◌↔◌, ℕ};
+ghost use Rattle.std.specs.Prelude.{◌≡◌, ◌∷◌, take, Contains, IsTrue, ◌↔◌};
 ghost use Rattle.naptr_data.specs.Sources.{Fronts};
 ghost use Rattle.walk_cases.specs.Names.{names_of};
 

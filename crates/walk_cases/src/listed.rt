@@ -1,5 +1,5 @@
 //! A source of rules that tells no zones, keeps two names, and has trouble at listed asks.
-ghost use Rattle.std.specs.Prelude.{◌≡◌, ◌≤◌, [], None, Err, IsTrue, IfOk, length};
+ghost use Rattle.std.specs.Prelude.{◌≡◌, ◌≤◌, [], None, Err, IsTrue, IfOk};
 ghost use Rattle.std.specs.List.{AllByRecursion};
 ghost use Rattle.std.specs.declared.cmp.Ordering.TheVariants.{Less};
 ghost use Rattle.enum_base.specs.Causes.{Rose, one_more};

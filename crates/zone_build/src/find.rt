@@ -1,5 +1,5 @@
 //! The records of one owner and kind.
-ghost use Rattle.std.specs.Prelude.{◌≡◌, ◌<◌, IsTrue, false, length};
+ghost use Rattle.std.specs.Prelude.{◌≡◌, ◌<◌, IsTrue, false};
 ghost use Rattle.zone_build.specs.Zone.{IsCanonical, IsIn, IsSet};
 ghost use Rattle.zone_build.specs.Finding.{Differs, IsFrom, IsFront};
 

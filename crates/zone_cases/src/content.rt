@@ -1,5 +1,5 @@
 //! The content of records in the lines of cases.
-ghost use Rattle.std.specs.Prelude.{◌≡◌, ◌<◌, IsTrue, IfOk, IfSome, length};
+ghost use Rattle.std.specs.Prelude.{◌<◌, IsTrue, IfOk, IfSome};
 ghost use Rattle.dns_wire.specs.Kinds.{is_whole};
 
 use dns_name::Name;

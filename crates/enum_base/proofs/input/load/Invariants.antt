@@ -1,4 +1,4 @@
-use Rattle.std.proofs.Common.{◌≡◌, ◌+◌, ◌-◌, length}
+use Rattle.std.proofs.Common.{◌+◌, ◌-◌, length}
 use Rattle.enum_base.proofs.Loaded.{IsLoaded}
 use Rattle.enum_base.proofs.input.load.Given as goal
 
