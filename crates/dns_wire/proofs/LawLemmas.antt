@@ -12,6 +12,10 @@ use Rattle.dns_wire.proofs.ReadingLemmas.{IsSingle-message, IsTotal-message}
 pub one_message : (bytes : List ℕ) (one other : Message) → Spells bytes one → Spells bytes other → one ≡ other
 one_message bytes one other h k = cc ((IsSingle-message bytes).same (Ok one) (Ok other) h k)
 
+-- where the bytes are those that spell it too
+pub one_read : (bytes wire : List ℕ) (one other : Message) → bytes ≡ wire → Spells bytes one → Spells wire other → one ≡ other
+one_read bytes wire one other same h k = one_message wire one other (subst (λ b. Spells b one) same h) k
+
 pub one_break : (bytes : List ℕ) (one other : DecodeFault) → Breaks bytes one → Breaks bytes other → one ≡ other
 one_break bytes one other h k = cc ((IsSingle-message bytes).same (Err one) (Err other) h k)
 

@@ -23,7 +23,7 @@ pub use decode_fault::DecodeFault;
 pub use decoding::decode;
 pub use encoding::{EncodeFault, encode};
 pub use framer::Framer;
-pub use laws::{message_is_one, stream_has_one_cut, written_message_is_read_again};
+pub use laws::{message_is_one, read_back, stream_has_one_cut, written_message_is_read_again};
 pub use message::{Header, Message};
 pub use question::{Question, Questions};
 pub use record::{Record, Records};

@@ -1,7 +1,7 @@
 //! Cases of messages.
 
 use crate::bytes;
-use dns_wire::{DecodeFault, EncodeFault, Message, Record, decode, encode};
+use dns_wire::{DecodeFault, EncodeFault, Message, Record, decode, encode, read_back};
 use enum_base::{Bytes, MemoryFault};
 use message_text::print_message;
 use std::alloc::Global;
@@ -40,10 +40,10 @@ fn lines(alloc: Global, message: &Message) -> Result<String, MemoryFault> {
     Ok(told)
 }
 
-// The bytes of a message that is written again.
+// The bytes of a message that is written, read again and written once more.
 fn written(alloc: Global, message: &Message) -> Result<String, MemoryFault> {
     let mut out = Bytes::new(alloc);
-    match encode(message, &mut out) {
+    match write_again(alloc, message, &mut out) {
         Ok(()) => {}
         Err(EncodeFault::TooLong) => return Ok("TooLong".to_string(alloc)?),
         Err(EncodeFault::Memory) => return Err(MemoryFault),
@@ -53,6 +53,11 @@ fn written(alloc: Global, message: &Message) -> Result<String, MemoryFault> {
         return Ok(format!(in alloc; "{size} bytes")?);
     }
     bytes::shown(alloc, out.as_slice())
+}
+
+fn write_again(alloc: Global, message: &Message, out: &mut Bytes) -> Result<(), EncodeFault> {
+    let again = read_back(alloc, message)?;
+    encode(&again, out)
 }
 
 // The fields of a copy of each record.
