@@ -124,6 +124,48 @@ HoldsName-append front back first second row f b first_is second_is room cells =
       cells = cells ∙ ap (padded 255) spelt;
     }
 
+-- what is left of a row of zeros
+zeros_left : (size n : ℕ) → drop {A = ℕ} (0 + n) (replicate size 0) ≡ replicate (size - n) 0
+zeros_left size n =
+    let left : size - (0 + n) ≡ size - n = omega arith in
+    drop-replicate (0 + n) size 0 ∙ ap (λ k. replicate k 0) left
+
+-- a row of a name, with bytes written from its last byte on
+row_after : (labels : List (List ℕ)) (len : ℕ) (row bytes after : List ℕ) → HoldsName labels len row → after ≡ take (len - 1) row ++ (bytes ++ drop (len - 1 + length bytes) row) → after ≡ padded 255 (flat_map label_wire labels ++ bytes)
+row_after labels len row bytes after h is =
+    let front = flat_map label_wire labels in
+    let short = h.name.short in
+    let size = length-append front (0 ∷ []) in
+    let place : len - 1 ≡ length front = omega (arith, h.size) in
+    let whole = h.cells ∙ padded-zero 255 front (omega arith) ∙ ap (λ x. front ++ x) (sym (zeros_left 255 (length front))) in
+    two_parts 255 front bytes row after whole (is ∙ ap (λ k. take k row ++ (bytes ++ drop (k + length bytes) row)) place)
+
+-- how many bytes a row has before the last of its name
+front_size : (labels : List (List ℕ)) (len : ℕ) (row : List ℕ) → HoldsName labels len row → len - 1 ≡ length (flat_map label_wire labels)
+front_size labels len row h = omega (arith, h.size, length-append (flat_map label_wire labels) (0 ∷ []))
+
+-- a row to which a name was appended
+pub HoldsName-appended : (front back : List (List ℕ)) (len : ℕ) (row second after : List ℕ) → HoldsName front len row → IsName back → second ≡ wire_of back → len - 1 + length second ≤ 255 → after ≡ take (len - 1) row ++ (second ++ drop (len - 1 + length second) row) → HoldsName (front ++ back) (len - 1 + length second) after
+HoldsName-appended front back len row second after h b second_is room is =
+    let size = front_size front len row h in
+    subst (λ n. HoldsName (front ++ back) (n + length second) after) (sym size)
+    (HoldsName-append front back (flat_map label_wire front) second after h.name b refl second_is (omega arith) (row_after front len row second after h is))
+
+-- a row to which a label was appended
+pub HoldsName-appended_label : (front : List (List ℕ)) (label : List ℕ) (len : ℕ) (row after : List ℕ) → HoldsName front len row → 0 < length label → length label ≤ 63 → AllByRecursion IsByte label → len - 1 + length label + 2 ≤ 255 → after ≡ take (len - 1) row ++ (label_wire label ++ drop (len - 1 + length label + 1) row) → HoldsName (front ++ label ∷ []) (len - 1 + length label + 2) after
+HoldsName-appended_label front label len row after h some most bytes room is =
+    let own = HoldsName-label label (padded 255 (label_wire label)) some most bytes refl in
+    let whole = flat_map label_wire front in
+    let place = front_size front len row h in
+    let step : len - 1 + length label + 1 ≡ len - 1 + length (label_wire label) = omega arith in
+    let cells = row_after front len row (label_wire label) after h (is ∙ ap (λ k. take (len - 1) row ++ (label_wire label ++ drop k row)) step) in
+    let spelt : wire_of (label ∷ []) ≡ label_wire label ++ 0 ∷ [] = ap (λ x. (length label ∷ x) ++ 0 ∷ []) (append-nil label) in
+    let joined : (whole ++ label_wire label) ++ 0 ∷ [] ≡ whole ++ wire_of (label ∷ []) = append_assoc whole (label_wire label) (0 ∷ []) ∙ ap (λ x. whole ++ x) (sym spelt) in
+    let most_bytes : length (whole ++ label_wire label) < 255 = omega (arith, length-append whole (label_wire label)) in
+    let size = own.size in
+    subst (λ n. HoldsName (front ++ label ∷ []) n after) (omega arith)
+    (HoldsName-append front (label ∷ []) whole (wire_of (label ∷ [])) after h.name own.name refl refl (omega arith) (cells ∙ sym (padded-zero 255 (whole ++ label_wire label) most_bytes) ∙ ap (padded 255) joined))
+
 -- what joining gives, by the length of the wire form
 pub name_within-fits : (labels : List (List ℕ)) → length (wire_of labels) ≤ 255 → Some labels ≡ name_within labels
 name_within-fits labels room = sym (cond-true _ (Some labels) None (le-leb (length (wire_of labels)) 255 room))

@@ -3,6 +3,7 @@ use Rattle.std.specs.Prelude.{ℕ, zero, suc, ◌+◌, nat_le, List, [], ◌∷�
 use Rattle.std.specs.Char.{is_ascii_digit}
 use Rattle.dns_name.specs.Name.{name_within}
 use Rattle.dns_name.specs.Text.{dot, backslash, decimal_of}
+use Rattle.dns_name.specs.declared.text.Own.{Own}
 use Rattle.dns_name.specs.declared.piece.Piece.{Piece}
 use Rattle.dns_name.specs.declared.piece.Piece.TheVariants.{Dot, Byte, Broken}
 use Rattle.dns_name.specs.declared.fault.NameFault.{NameFault}
@@ -61,6 +62,15 @@ reading_from labels start label at (Broken ∷ rest) = Err (BadEscape at)
 unfoldable pub reading_of : List ℕ → Result (Option (List (List ℕ)) × Bool) NameFault
 reading_of text =
     if bytes_eq text (dot ∷ []) then Ok (Some [], true) else reading_from (Some []) 0 [] 0 (pieces text)
+
+-- the labels, where they fit
+abbrev pub while_fits : Bool → List (List ℕ) → Option (List (List ℕ))
+while_fits fits labels = if fits then Some labels else None
+
+-- what was read, where these labels were appended
+abbrev pub as_reading : List (List ℕ) → Result Own NameFault → Result (Option (List (List ℕ)) × Bool) NameFault
+as_reading labels (Err fault) = Err fault
+as_reading labels (Ok own) = Ok (while_fits own.fits labels, own.absolute)
 
 -- the name, unless it is too long
 abbrev pub fitting : Option (List (List ℕ)) → Result (List (List ℕ)) NameFault

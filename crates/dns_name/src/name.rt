@@ -1,6 +1,7 @@
 //! Domain names, as one row of wire bytes.
 ghost use Rattle.std.specs.Prelude.{◌≡◌, ◌<◌, ◌≤◌, ◌+◌, ◌↔◌, [], ◌∷◌, ◌++◌, length, take, drop, IsTrue};
 ghost use Rattle.enum_base.specs.Padding.{padded};
+ghost use Rattle.dns_name.specs.Name.{label_wire};
 
 use crate::fault::NameFault;
 use crate::order::cmp_folded_bytes;
@@ -39,7 +40,7 @@ impl Model for Name {
 
 impl Name {
     ghost use Rattle.dns_name.specs.Name.{wire_of, labels_of, folded_labels, folded_order, name_within, parent_of, star, AreSame, IsBelow, IsName, IsWire};
-    ghost use Rattle.dns_name.specs.Reading.{fitting};
+    ghost use Rattle.dns_name.specs.Reading.{fitting, while_fits};
 
     /// The root.
     pub fn root() -> Name
@@ -102,9 +103,12 @@ impl Name {
     pub fn prepend_star(&self) -> Result<Name, NameFault>
         ensures { result ≡ fitting (name_within (star ∷ self.now)) }
     {
-        Name::of_label(b"*")
-            .followed_by(self)
-            .ok_or(NameFault::NameTooLong)
+        let mut name = Name::of_label(b"*");
+        if name.append(self) {
+            Ok(name)
+        } else {
+            Err(NameFault::NameTooLong)
+        }
     }
 
     /// Whether this name is the other or lies below it, without regard to case.
@@ -142,20 +146,33 @@ impl Name {
         }
     }
 
-    /// These labels and then those of the other name, or `None` where they would pass 255 bytes.
-    pub(crate) fn followed_by(&self, other: &Name) -> Option<Name>
-        ensures { result ≡ name_within (self.now ++ other.now) }
+    /// Appends the label, and answers whether the name has room for it.
+    pub(crate) fn append_label(&mut self, label: &[u8]) -> bool
+        requires some { 0 < length label.now }
+        requires most { length label.now ≤ 63 }
+        ensures { while_fits result self.new ≡ name_within (self.old ++ label.now ∷ []) }
     {
-        let front = self.wire();
-        let front = &front[..front.len() - 1];
-        let back = other.wire();
-        if front.len() + back.len() > 255 {
-            return None;
+        let front = self.len as usize - 1;
+        if front + label.len() + 2 > 255 {
+            return false;
         }
-        Some(Name {
-            row: row_of(front, back),
-            len: (front.len() + back.len()) as u8,
-        })
+        put_label(&mut self.row, front, label);
+        self.len = (front + label.len() + 2) as u8;
+        true
+    }
+
+    /// Appends the labels of the other name, and answers whether the name has room for them.
+    pub(crate) fn append(&mut self, other: &Name) -> bool
+        ensures { while_fits result self.new ≡ name_within (self.old ++ other.now) }
+    {
+        let front = self.len as usize - 1;
+        let back = other.wire();
+        if front + back.len() > 255 {
+            return false;
+        }
+        put(&mut self.row, front, back);
+        self.len = (front + back.len()) as u8;
+        true
     }
 }
 
@@ -165,6 +182,16 @@ fn put(row: &mut [u8], at: usize, bytes: &[u8])
     ensures { row.new ≡ take at row.old ++ (bytes.now ++ drop (at + length bytes.now) row.old) }
 {
     row[at..at + bytes.len()].copy_from_slice(bytes);
+}
+
+// Writes the wire form of the label into the row from that cell on.
+fn put_label(row: &mut [u8], at: usize, label: &[u8])
+    requires size { length label.now < 256 }
+    requires room { at + length label.now + 1 ≤ length row.old }
+    ensures { row.new ≡ take at row.old ++ (label_wire label.now ++ drop (at + length label.now + 1) row.old) }
+{
+    row[at] = label.len() as u8;
+    put(row, at + 1, label);
 }
 
 // The bytes of both in a row, and zeros behind them.

@@ -1,7 +1,7 @@
 //! Names as text.
-ghost use Rattle.std.specs.Prelude.{◌≡◌, ◌<◌, ◌≤◌, ◌++◌, ◌↔◌, List, ℕ, length, OnOk, OnErr, option_and_then};
+ghost use Rattle.std.specs.Prelude.{◌≡◌, ◌<◌, ◌≤◌, ◌++◌, ◌↔◌, List, ℕ, [], length, OnOk, OnErr, option_and_then};
 ghost use Rattle.dns_name.specs.Name.{wire_of, name_within};
-ghost use Rattle.dns_name.specs.Reading.{name_of, reading_of, with_label};
+ghost use Rattle.dns_name.specs.Reading.{name_of, reading_of, with_label, while_fits, as_reading};
 ghost use Rattle.dns_name.specs.Text.{labels_lent};
 
 use crate::fault::NameFault;
@@ -66,41 +66,56 @@ impl Name {
 fn parse(text: &[u8], origin: Option<&Name>) -> Result<Name, NameFault>
     ensures { result ≡ name_of text.now (labels_lent origin.entry) }
 {
-    let (own, absolute) = read(text)?;
-    let whole = if absolute {
-        own
+    let mut name = Name::root();
+    let read = read(text, &mut name)?;
+    let fits = if read.absolute {
+        read.fits
     } else {
         let Some(origin) = origin else {
             return Err(NameFault::NoOrigin);
         };
-        joined(own, origin)
+        joined(read.fits, &mut name, origin)
     };
-    whole.ok_or(NameFault::NameTooLong)
+    if fits {
+        Ok(name)
+    } else {
+        Err(NameFault::NameTooLong)
+    }
+}
+
+// What was read of a text.
+#[derive(Clone, Copy)]
+struct Own {
+    // Whether its labels fit a name.
+    fits: bool,
+    absolute: bool,
 }
 
 // The labels of both, while they fit a name.
-fn joined(front: Option<Name>, back: &Name) -> Option<Name>
-    ensures { result ≡ option_and_then (λ labels. name_within (labels ++ back.now)) front }
+fn joined(fits: bool, name: &mut Name, back: &Name) -> bool
+    ensures { while_fits result name.new ≡ option_and_then (λ labels. name_within (labels ++ back.now)) (while_fits fits name.old) }
 {
-    front?.followed_by(back)
+    fits && name.append(back)
 }
 
 // One label more, while the name fits.
-fn extended(labels: Option<Name>, label: &Label) -> Option<Name>
+fn extended(fits: bool, name: &mut Name, label: &Label) -> bool
     requires { 0 < length label.now }
-    ensures { result ≡ with_label labels label.now }
+    ensures { while_fits result name.new ≡ with_label (while_fits fits name.old) label.now }
 {
-    joined(labels, &Name::of_label(label.as_slice()))
+    fits && name.append_label(label.as_slice())
 }
 
-// The labels of a text while they fit a name, and whether the text is absolute.
-fn read(text: &[u8]) -> Result<(Option<Name>, bool), NameFault>
-    ensures { result ≡ reading_of text.now }
+// Appends the labels of a text to the root while they fit a name, and tells whether they do and whether the text is absolute.
+fn read(text: &[u8], name: &mut Name) -> Result<Own, NameFault>
+    requires { name.old ≡ [] }
+    ensures { as_reading name.new result ≡ reading_of text.now }
 {
+    let absolute = true;
+    let mut fits = true;
     if text == b".".as_slice() {
-        return Ok((Some(Name::root()), true));
+        return Ok(Own { fits, absolute });
     }
-    let mut labels = Some(Name::root());
     let mut label = Label::new();
     let mut start = 0;
     let mut at = 0;
@@ -109,7 +124,7 @@ fn read(text: &[u8]) -> Result<(Option<Name>, bool), NameFault>
             Piece::Broken => return Err(NameFault::BadEscape { at }),
             Piece::Dot if label.is_empty() => return Err(NameFault::EmptyLabel { at: start }),
             Piece::Dot => {
-                labels = extended(labels, &label);
+                fits = extended(fits, name, &label);
                 label = Label::new();
                 at += 1;
                 start = at;
@@ -124,10 +139,12 @@ fn read(text: &[u8]) -> Result<(Option<Name>, bool), NameFault>
         }
     }
     if !label.is_empty() {
-        Ok((extended(labels, &label), false))
+        let absolute = false;
+        let fits = extended(fits, name, &label);
+        Ok(Own { fits, absolute })
     } else if start == 0 {
         Err(NameFault::EmptyLabel { at: 0 })
     } else {
-        Ok((labels, true))
+        Ok(Own { fits, absolute })
     }
 }
