@@ -1,7 +1,8 @@
-use Rattle.std.proofs.Common.{◌≡◌, ◌∙◌, ℕ, ◌+◌, ◌-◌, ◌<◌, ◌≤◌, List, [], ◌∷◌, ◌++◌, length, get_or, take, drop, true, false, Result, Ok, Err, sym, ap, arith, length-append}
+use Rattle.std.proofs.Common.{◌≡◌, ◌∙◌, ℕ, zero, suc, subst, ◌+◌, ◌-◌, ◌<◌, ◌≤◌, List, [], ◌∷◌, ◌++◌, length, get_or, take, drop, true, false, Result, Ok, Err, sym, ap, arith, length-append}
 use Rattle.std.proofs.lemmas.List.{drop_more, take_more, get_or-drop, length-take, length-drop}
 use Rattle.std.proofs.lemmas.Bool.{cond-true, cond-false}
-use Rattle.zone_token.specs.Entries.{beginning, behind, ends_entry, ended_from}
+use Rattle.zone_token.specs.Entries.{beginning, behind, ends_entry, ended_from, still_size}
+use Rattle.zone_token.proofs.SpotLemmas.{Stays, stays}
 use Rattle.zone_text.specs.Reading.{Read, read_behind, on_line, run, step, rest_from, ◌>>=◌}
 use Rattle.zone_text.specs.Zone.{entry_within}
 use Rattle.zone_text.specs.declared.meaning.Meaning.{Meaning}
@@ -96,3 +97,25 @@ scan_ends text read begun spot left now next last at s below test ok =
       within = omega (arith, size);
       inside = omega arith;
     }
+
+-- the scan goes on behind bytes that leave the spot as it is
+pub scan_skips : (text : List ℕ) (read : Read) (begun : List ℕ) (spot : Spot) (left : List ℕ) (now : Read) (last : Spot) (n at : ℕ) → Scanned text read begun spot left now last at → at + n ≤ length text → ((k : ℕ) → k < n → Stays last (get_or text (at + k) 0)) → Scanned text read begun spot left now last (at + n)
+scan_skips text read begun spot left now last zero at s inside each =
+    let none : at ≡ at + 0 = omega arith in
+    subst (Scanned text read begun spot left now last) none s
+scan_skips text read begun spot left now last (suc n) at s inside each =
+    let none : at + 0 ≡ at = omega arith in
+    let sum : at + 1 + n ≡ at + suc n = omega arith in
+    let shift : (k : ℕ) → at + suc k ≡ at + 1 + k = λ k. omega arith in
+    let stay : Stays last (get_or text at 0) = subst (λ k. Stays last (get_or text k 0)) none (each 0 (omega arith)) in
+    let on = scan_goes_on text read begun spot left now last at s (omega arith) stay.goes in
+    let same = subst (λ spot_now. Scanned text read begun spot left now spot_now (at + 1)) stay.same on in
+    subst (Scanned text read begun spot left now last) sum
+    (scan_skips text read begun spot left now last n (at + 1) same (omega arith) (λ k below. subst (λ i. Stays last (get_or text i 0)) (shift k) (each (suc k) (omega arith))))
+
+-- the scan comes to the next byte that may change the spot
+pub scan_turns : (text : List ℕ) (read : Read) (begun : List ℕ) (spot : Spot) (left : List ℕ) (now : Read) (last : Spot) (at next : ℕ) → Scanned text read begun spot left now last at → next ≡ at + still_size last (drop at text) → next ≤ length text → Scanned text read begun spot left now last next
+scan_turns text read begun spot left now last at next s is inside =
+    let n = still_size last (drop at text) in
+    subst (Scanned text read begun spot left now last) (sym is)
+    (scan_skips text read begun spot left now last n at s (omega (arith, is)) (λ k below. subst (Stays last) (get_or-drop at text k 0) (stays last (drop at text) k below)))

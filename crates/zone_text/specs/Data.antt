@@ -137,6 +137,10 @@ naptr_of origin fields = do
   end ← ends_at fields 6
   Ok (record { order = order; preference = preference; flags = flags; services = services; regexp = regexp; replacement = replacement })
 
+-- a rule as the content of a record
+abbrev pub rule_of : Labels → List Token → Result Content TextWhy
+rule_of origin fields = naptr_of origin fields >>= λ rule. Ok (content.Naptr rule)
+
 -- the content of these data
 unfoldable pub content_of : Kind → Labels → List Token → Result Content TextWhy
 content_of kind.A origin fields = a_of fields >>= λ address. Ok (content.A address)

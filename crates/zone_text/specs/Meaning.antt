@@ -127,6 +127,10 @@ statement_of standing owner tokens place = do
   said ← content_of of standing.origin (drop (head.place + 1) tokens)
   Ok (record { owner = owner; ttl = unwrap_or ttl (minimum_of said); content = said })
 
+-- an entry that states a record
+abbrev pub stated : Result Statement TextWhy → Result Meaning TextWhy
+stated record_read = record_read >>= λ said. Ok (Record said)
+
 -- a record whose owner stands first, or is that of the record before
 unfoldable pub record_of : Standing → Bool → List Token → Result Statement TextWhy
 record_of standing true tokens = ok_or standing.owner NoOwner >>= λ owner. statement_of standing owner tokens 0

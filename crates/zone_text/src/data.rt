@@ -2,7 +2,7 @@
 ghost use Rattle.std.specs.Prelude.{◌≡◌, ◌<◌, length, IsTrue, IfOk};
 ghost use Rattle.dns_wire.specs.Kinds.{is_whole};
 ghost use Rattle.zone_token.specs.Tokens.{Gives};
-ghost use Rattle.zone_text.specs.Data.{number_at, time_at, quad_at, address_at, string_at, target_of, a_of, aaaa_of, soa_of, mx_of, strings_of, txt_of, srv_of, naptr_of, content_of};
+ghost use Rattle.zone_text.specs.Data.{number_at, time_at, quad_at, address_at, string_at, target_of, a_of, aaaa_of, soa_of, mx_of, strings_of, txt_of, srv_of, rule_of, content_of};
 ghost use Rattle.zone_token.specs.Texts.{string_of};
 ghost use Rattle.std.specs.Option.{ok_or};
 
@@ -165,8 +165,9 @@ fn read_srv(origin: &Name, fields: &[Token]) -> Result<Content, TextWhy>
 
 // The six fields of a rule.
 #[tactic(auto, unfolding(crate::specs::Data::naptr_of))]
-fn read_naptr(origin: &Name, fields: &[Token]) -> Result<Naptr, TextWhy>
-    ensures { result ≡ naptr_of origin.now fields.now }
+fn read_naptr(origin: &Name, fields: &[Token]) -> Result<Content, TextWhy>
+    ensures value { result ≡ rule_of origin.now fields.now }
+    ensures whole { IfOk result (λ content. IsTrue (is_whole content)) }
 {
     let order = u16_at(fields, 0)?;
     let preference = u16_at(fields, 1)?;
@@ -175,14 +176,14 @@ fn read_naptr(origin: &Name, fields: &[Token]) -> Result<Naptr, TextWhy>
     let regexp = string_at(fields, 4)?;
     let replacement = name_at(TextWhy::BadData, origin, fields, 5)?;
     ends_at(fields, 6)?;
-    Ok(Naptr {
+    Ok(Content::Naptr(Naptr {
         order,
         preference,
         flags,
         services,
         regexp,
         replacement,
-    })
+    }))
 }
 
 // The character-string of a token.
@@ -237,6 +238,6 @@ pub(crate) fn read_content(
         Kind::Txt => Ok(Content::Txt(read_txt(alloc, fields)?)),
         Kind::Aaaa => Ok(Content::Aaaa(read_aaaa(fields)?)),
         Kind::Srv => read_srv(origin, fields),
-        Kind::Naptr => Ok(Content::Naptr(read_naptr(origin, fields)?)),
+        Kind::Naptr => read_naptr(origin, fields),
     }
 }

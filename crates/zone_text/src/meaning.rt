@@ -105,7 +105,7 @@ fn minimum_of(content: &Content) -> u32
 }
 
 impl Standing {
-    ghost use Rattle.zone_text.specs.Meaning.{ttl_for, statement_of, record_of, directive_of, meaning_of, entry_of};
+    ghost use Rattle.zone_text.specs.Meaning.{ttl_for, stated, statement_of, record_of, directive_of, meaning_of, entry_of};
 
     // The TTL of a record that states this one or none, unless it takes its own.
     #[tactic(auto, unfolding(crate::specs::Meaning::ttl_for))]
@@ -128,33 +128,28 @@ impl Standing {
         owner: &Name,
         tokens: &[Token],
         place: usize,
-    ) -> Result<Statement, TextWhy>
+    ) -> Result<Meaning, TextWhy>
         requires { place ≤ 1 }
-        ensures value { Gives result (statement_of self.now owner.now tokens.now place) }
-        ensures whole { IfOk result (λ said. IsTrue (is_whole said.content)) }
+        ensures value { Gives result (stated (statement_of self.now owner.now tokens.now place)) }
+        ensures whole { IfOk result (λ meaning. IsTrue (is_whole_meaning meaning)) }
     {
         let head = Head::read(tokens, place)?;
         let kind = kind_at(tokens, head.place)?;
         let ttl = self.ttl_for(head.ttl, kind)?;
         let fields = tokens_behind(tokens, head.place);
         let content = read_content(alloc, kind, &self.origin, fields)?;
-        Ok(Statement {
+        Ok(Meaning::Record(Statement {
             owner: *owner,
             ttl: ttl.unwrap_or(minimum_of(&content)),
             content,
-        })
+        }))
     }
 
     // The record whose owner stands first, or is that of the record before.
     #[tactic(auto, unfolding(crate::specs::Meaning::record_of))]
-    fn read_record(
-        &self,
-        alloc: Global,
-        blank: bool,
-        tokens: &[Token],
-    ) -> Result<Statement, TextWhy>
-        ensures value { Gives result (record_of self.now blank tokens.now) }
-        ensures whole { IfOk result (λ said. IsTrue (is_whole said.content)) }
+    fn read_record(&self, alloc: Global, blank: bool, tokens: &[Token]) -> Result<Meaning, TextWhy>
+        ensures value { Gives result (stated (record_of self.now blank tokens.now)) }
+        ensures whole { IfOk result (λ meaning. IsTrue (is_whole_meaning meaning)) }
     {
         if blank {
             let Some(owner) = &self.owner else {
@@ -194,7 +189,7 @@ impl Standing {
         if is_directive(blank, token) {
             self.read_directive(token.text(), tokens)
         } else {
-            Ok(Meaning::Record(self.read_record(alloc, blank, tokens)?))
+            self.read_record(alloc, blank, tokens)
         }
     }
 

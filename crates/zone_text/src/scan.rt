@@ -1,7 +1,7 @@
 //! The entries of a text that comes in pieces.
-ghost use Rattle.std.specs.Prelude.{◌≡◌, ◌≢◌, ◌-◌, ◌≤◌, length, take, drop, slice_index, ◌<◌, ◌++◌, ◌∷◌, [], IfOk, IfErr, Ok, Err};
+ghost use Rattle.std.specs.Prelude.{◌≡◌, ◌≢◌, ◌+◌, ◌-◌, ◌≤◌, length, take, drop, slice_index, ◌<◌, ◌++◌, ◌∷◌, [], IfOk, IfErr, Ok, Err};
 ghost use Rattle.zone_token.specs.declared.fault.TextWhy.TheVariants.{Memory};
-ghost use Rattle.zone_token.specs.Entries.{ended_from};
+ghost use Rattle.zone_token.specs.Entries.{ended_from, still_size};
 ghost use Rattle.zone_text.specs.Read.{seen};
 ghost use Rattle.zone_text.specs.Reading.{rest_from, run};
 
@@ -28,7 +28,8 @@ pub(crate) fn read_ended(
         IfErr result (λ fault. fault.why ≢ Memory → run (seen progress.old) (ended_from begun spot (drop at text.now)) ≡ Err fault) }
 {
     let mut spot = spot;
-    for here in at..text.len() {
+    let mut here = next_turn(text, at, spot);
+    while here < text.len() {
         let byte = text[here];
         if spot.is_end(byte) {
             progress.read(alloc, entry_of(text, progress.size, here))?;
@@ -36,8 +37,18 @@ pub(crate) fn read_ended(
         } else {
             spot = spot.behind(byte);
         }
+        here = next_turn(text, here + 1, spot);
     }
     Ok(spot)
+}
+
+// The place of the first byte from there on that may change the spot.
+fn next_turn(text: &[u8], at: usize, spot: Spot) -> usize
+    requires { at ≤ length text.now }
+    ensures value { result ≡ at + still_size spot (drop at text.now) }
+    ensures within { result ≤ length text.now }
+{
+    at + spot.still_size(&text[at..])
 }
 
 // The bytes from a place to another and with the byte there.

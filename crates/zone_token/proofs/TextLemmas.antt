@@ -1,10 +1,12 @@
-use Rattle.std.proofs.Common.{◌≡◌, ◌∙◌, ℕ, zero, suc, ◌+◌, ◌<◌, ◌≤◌, List, [], ◌∷◌, ◌++◌, length, drop, Bool, true, false, Option, Some, None, refl, sym, ap, arith, append_assoc, add-one, length-append}
-use Rattle.std.specs.Prelude.{nat_le, if◌then◌else◌}
+use Rattle.std.proofs.Common.{◌≡◌, ◌∙◌, ℕ, zero, suc, ◌+◌, ◌<◌, ◌≤◌, List, [], ◌∷◌, ◌++◌, length, drop, get_or, cond, ltb, Bool, true, false, Option, Some, None, refl, sym, ap, arith, append_assoc, add-one, length-append}
+use Rattle.std.specs.Prelude.{nat_le, if◌then◌else◌, ◌==◌, is_some, position}
+use Rattle.std.specs.List.{position_or_len}
+use Rattle.std.proofs.lemmas.List.Sums.{fails_before_first}
 use Rattle.std.specs.Option.{IfSome, IsNone}
 use Rattle.std.proofs.lemmas.List.{append-nil}
 use Rattle.std.proofs.lemmas.Bool.{false≢true}
 use Rattle.std.proofs.lemmas.Bool.Decides.{nat_tests}
-use Rattle.zone_token.specs.Bytes.{first_byte}
+use Rattle.zone_token.specs.Bytes.{backslash, first_byte}
 use Rattle.zone_token.specs.Texts.{◌>>=◌, undone_from, string_of}
 
 -- bytes before others, if there are others
@@ -85,3 +87,30 @@ pub room : (bytes now : List ℕ) (byte : ℕ) {full : Bool} → length bytes �
 room bytes now byte {full} most test fails is =
     let other : length bytes ≡ 255 → ⊥ = λ h. false≢true (sym fails ∙ test h) in
     omega (arith, ap length is, length-append bytes (byte ∷ []), other)
+
+-- a text without a backslash stands for its own bytes
+undone-byte : (byte : ℕ) (rest : List ℕ) → (byte == backslash) ≡ false → undone_from 0 (byte ∷ rest) ≡ bytes_before (byte ∷ []) (undone_from 0 rest)
+unfolding undone_from
+undone-byte byte rest other = rw other refl
+
+undone-plain : (text : List ℕ) → ((k : ℕ) → k < length text → (get_or text k 0 == backslash) ≡ false) → undone_from 0 text ≡ Some text
+undone-plain [] each = undone-end [] refl
+undone-plain (byte ∷ rest) each =
+    undone-byte byte rest (each 0 (omega arith)) ∙ ap (bytes_before (byte ∷ [])) (undone-plain rest (λ k below. each (suc k) (omega arith)))
+
+never-le : (n size : ℕ) → is_some (cond (ltb n size) (Some n) None) ≡ false → size ≤ n
+never-le n size is = grind (arith, nat_tests)
+
+-- what Text255::from_bytes gives of a text without a backslash
+pub plain_string : (text : List ℕ) (place : Option ℕ) (result : Option (List ℕ)) → place ≡ position (λ byte. byte == backslash) text → is_some place ≡ false → IfSome result (λ string. string ≡ text) → (IsNone result → 255 < length text) → (255 < length text → IsNone result) → result ≡ string_of text
+unfolding string_of
+plain_string text place result is never some none long =
+    let least = never-le (position_or_len (λ byte. byte == backslash) text) (length text) (ap is_some (sym is) ∙ never) in
+    let whole = undone-plain text (λ k below. fails_before_first (λ byte. byte == backslash) text k 0 (omega (arith, least))) in
+    short_of text result some none long ∙ ap (λ o. o >>= if_short) (sym whole)
+  where
+    short_of : (text : List ℕ) (result : Option (List ℕ)) → IfSome result (λ string. string ≡ text) → (IsNone result → 255 < length text) → (255 < length text → IsNone result) → result ≡ if_short text
+    short_of text None some none long = sym (not_short text (none refl))
+    short_of text (Some string) some none long =
+        let small : 255 < length text → ⊥ = λ more. false≢true (sym (long more)) in
+        ap Some some ∙ sym (is_short text (omega (arith, small)))

@@ -1,5 +1,5 @@
 -- The bytes that zone texts are made of (RFC 1035, section 5.1).
-use Rattle.std.specs.Prelude.{ℕ, nat_le, List, [], ◌∷◌, Bool, false, ◌&&◌, ◌||◌, ◌==◌, if◌then◌else◌, Option, Some, None, is_some}
+use Rattle.std.specs.Prelude.{ℕ, nat_le, List, [], ◌∷◌, length, position, unwrap_or, Bool, false, ◌&&◌, ◌||◌, ◌==◌, if◌then◌else◌, Option, Some, None, is_some}
 use Rattle.std.specs.Char.{is_ascii_digit}
 use Rattle.dns_name.specs.Text.{decimal_of}
 
@@ -76,3 +76,7 @@ is_escape text = is_some (escaped_byte text)
 abbrev pub first_byte : List ℕ → Option (ℕ × ℕ)
 first_byte [] = None
 first_byte (byte ∷ rest) = if byte == backslash then escaped_byte rest else Some (byte, 0)
+
+-- how many bytes stand at the front of a text before the first one that passes
+abbrev pub size_until : (ℕ → Bool) → List ℕ → ℕ
+size_until test text = unwrap_or (position test text) (length text)

@@ -1,7 +1,7 @@
 -- The entries of a zone text (RFC 1035, section 5.1). An entry ends with the first line feed outside parentheses, or
 -- with the text; a line feed inside quotes ends it too.
 use Rattle.std.specs.Prelude.{ℕ, List, [], ◌∷◌, ◌++◌, Bool, true, false, not, ◌&&◌, ◌||◌, ◌==◌, if◌then◌else◌}
-use Rattle.zone_token.specs.Bytes.{line_feed, quote, opening, closing, semicolon, backslash}
+use Rattle.zone_token.specs.Bytes.{line_feed, quote, opening, closing, semicolon, backslash, size_until}
 use Rattle.zone_token.specs.declared.spot.Part.{Part}
 use Rattle.zone_token.specs.declared.spot.Part.TheVariants.{Plain, Escaped, Quoted, QuotedEscaped, Comment}
 use Rattle.zone_token.specs.declared.spot.Spot.{Spot}
@@ -33,6 +33,31 @@ is_quoted Escaped = false
 is_quoted Quoted = true
 is_quoted QuotedEscaped = true
 is_quoted Comment = false
+
+-- the part behind a byte that has no meaning of its own
+abbrev pub unescaped : Part → Part
+unescaped Plain = Plain
+unescaped Escaped = Plain
+unescaped Quoted = Quoted
+unescaped QuotedEscaped = Quoted
+unescaped Comment = Comment
+
+-- a byte has a meaning of its own in some part
+abbrev pub turns : ℕ → Bool
+turns byte =
+    byte == line_feed || byte == quote || byte == semicolon || byte == opening || byte == closing || byte == backslash
+
+-- behind a backslash
+abbrev pub is_escaped : Part → Bool
+is_escaped Plain = false
+is_escaped Escaped = true
+is_escaped Quoted = false
+is_escaped QuotedEscaped = true
+is_escaped Comment = false
+
+-- how many bytes at the front of a text leave a spot as it is: those before the first with a meaning of its own, if none is escaped
+abbrev pub still_size : Spot → List ℕ → ℕ
+still_size spot text = if is_escaped spot.part then 0 else size_until turns text
 
 -- where an entry begins
 abbrev pub beginning : Spot

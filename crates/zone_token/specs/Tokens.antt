@@ -1,5 +1,5 @@
 -- The tokens of an entry, and its lexical fault (RFC 1035, section 5.1).
-use Rattle.std.specs.Prelude.{◌≡◌, ◌≢◌, ℕ, zero, suc, ◌+◌, ◌-◌, List, [], ◌∷◌, ◌++◌, length, take, position, unwrap_or, Bool, true, false, not, ◌&&◌, ◌||◌, ◌==◌, if◌then◌else◌, Some, None, Result, Ok, Err}
+use Rattle.std.specs.Prelude.{◌≡◌, ◌≢◌, ℕ, zero, suc, nat_le, ◌+◌, ◌-◌, List, [], ◌∷◌, ◌++◌, length, take, position, unwrap_or, Bool, true, false, not, ◌&&◌, ◌||◌, ◌==◌, if◌then◌else◌, Some, None, Result, Ok, Err}
 use Rattle.std.specs.Option.{option_to_list}
 use Rattle.zone_token.specs.Bytes.{line_feed, quote, opening, closing, semicolon, backslash, is_blank, is_visible, is_quotable, is_escape}
 use Rattle.zone_token.specs.Token.{Token}
@@ -28,6 +28,15 @@ abbrev pub is_bare : Bool → List ℕ → Bool
 is_bare escaped [] = false
 is_bare escaped (byte ∷ rest) =
     (is_visible byte || is_blank (byte ∷ rest)) && (not escaped || is_escape (byte ∷ rest))
+
+-- a byte that stands in a bare token whatever stands around it, behind no backslash
+abbrev pub is_plain : ℕ → Bool
+is_plain byte =
+    is_visible byte && not (byte == semicolon || byte == opening || byte == closing || byte == quote || byte == backslash)
+
+-- a byte that stands in a quoted token whatever stands around it, behind no backslash
+abbrev pub is_plain_quoted : ℕ → Bool
+is_plain_quoted byte = nat_le 32 byte && nat_le byte 126 && not (byte == quote || byte == backslash)
 
 -- how many bytes a bare token has at the front of a text, where some stand before it
 abbrev pub bare_from : Bool → ℕ → List ℕ → Result ℕ TextWhy

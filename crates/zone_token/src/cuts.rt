@@ -2,8 +2,8 @@
 ghost use Rattle.std.specs.Prelude.{◌≡◌, ◌==◌, ◌<◌, position, length, Some, None, MatchOption, IfSome};
 ghost use Rattle.zone_token.specs.Addresses.{cut};
 
-// The place of the first such byte.
-fn first_place(text: &[u8], byte: u8) -> Option<usize>
+/// The place of the first such byte.
+pub(crate) fn first_place(text: &[u8], byte: u8) -> Option<usize>
     ensures value { result ≡ position (λ b. b == byte) text.now }
     ensures within { IfSome result (λ at. at < length text.now) }
 {

@@ -1,5 +1,7 @@
 //! Where the bytes of a zone text stand in their entries.
-ghost use Rattle.std.specs.Prelude.{◌≡◌};
+ghost use Rattle.std.specs.Prelude.{◌≡◌, ◌<◌, ◌≤◌, length, position, IfSome};
+ghost use Rattle.zone_token.specs.Entries.{turns};
+ghost use Rattle.zone_token.specs.Bytes.{size_until};
 
 /// A part of an entry.
 #[derive(Clone, Copy, Debug, PartialEq, Eq)]
@@ -25,7 +27,7 @@ pub struct Spot {
 }
 
 impl Part {
-    ghost use Rattle.zone_token.specs.Entries.{part_behind, inside_behind, is_quoted};
+    ghost use Rattle.zone_token.specs.Entries.{part_behind, unescaped, inside_behind, is_escaped, is_quoted};
 
     // The part behind the byte.
     fn behind(self, byte: u8) -> Part
@@ -44,6 +46,17 @@ impl Part {
         }
     }
 
+    // The part behind a byte that does not turn.
+    fn unescaped(self) -> Part
+        ensures { result ≡ unescaped self }
+    {
+        match self {
+            Part::Plain | Part::Escaped => Part::Plain,
+            Part::Quoted | Part::QuotedEscaped => Part::Quoted,
+            Part::Comment => Part::Comment,
+        }
+    }
+
     // Whether parentheses are open behind the byte.
     fn inside_behind(self, inside: bool, byte: u8) -> bool
         ensures { result ≡ inside_behind self inside byte }
@@ -55,6 +68,13 @@ impl Part {
         }
     }
 
+    // Whether it stands behind a backslash.
+    fn is_escaped(self) -> bool
+        ensures { result ≡ is_escaped self }
+    {
+        matches!(self, Part::Escaped | Part::QuotedEscaped)
+    }
+
     // Whether it stands inside quotes.
     fn is_quoted(self) -> bool
         ensures { result ≡ is_quoted self }
@@ -63,8 +83,40 @@ impl Part {
     }
 }
 
+// Whether another part may begin behind the byte where none is escaped, or parentheses open or close.
+fn turns(byte: u8) -> bool
+    ensures { result ≡ turns byte }
+{
+    // One arm a byte: the compiler makes one test of bits of them.
+    match byte {
+        b'\n' => true,
+        b'"' => true,
+        b';' => true,
+        b'(' => true,
+        b')' => true,
+        b'\\' => true,
+        _ => false,
+    }
+}
+
+// The place of the first such byte.
+fn first_turn(text: &[u8]) -> Option<usize>
+    ensures value { result ≡ position turns text.now }
+    ensures within { IfSome result (λ at. at < length text.now) }
+{
+    text.iter().position(|byte| turns(*byte))
+}
+
+// How many bytes stand before the first such byte.
+fn size_until_turn(text: &[u8]) -> usize
+    ensures value { result ≡ size_until turns text.now }
+    ensures within { result ≤ length text.now }
+{
+    first_turn(text).unwrap_or(text.len())
+}
+
 impl Spot {
-    ghost use Rattle.zone_token.specs.Entries.{beginning, behind, ends_entry};
+    ghost use Rattle.zone_token.specs.Entries.{beginning, behind, ends_entry, still_size};
 
     /// Where an entry begins.
     pub fn beginning() -> Spot
@@ -80,9 +132,28 @@ impl Spot {
     pub fn behind(self, byte: u8) -> Spot
         ensures { result ≡ behind self byte }
     {
-        Spot {
-            part: self.part.behind(byte),
-            inside: self.part.inside_behind(self.inside, byte),
+        if turns(byte) {
+            Spot {
+                part: self.part.behind(byte),
+                inside: self.part.inside_behind(self.inside, byte),
+            }
+        } else {
+            Spot {
+                part: self.part.unescaped(),
+                inside: self.inside,
+            }
+        }
+    }
+
+    /// How many bytes at the front of the text leave the spot as it is, as far as no other byte can change it.
+    pub fn still_size(self, text: &[u8]) -> usize
+        ensures value { result ≡ still_size self text.now }
+        ensures within { result ≤ length text.now }
+    {
+        if self.part.is_escaped() {
+            0
+        } else {
+            size_until_turn(text)
         }
     }
 

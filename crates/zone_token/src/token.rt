@@ -1,7 +1,7 @@
 //! The tokens at the front of a text.
 ghost use Rattle.std.specs.Prelude.{◌≡◌, ◌&&◌, ◌==◌, ◌≤◌, ◌<◌, not, false, length, IfOk, IfSome, position};
-ghost use Rattle.zone_token.specs.Bytes.{line_feed, quote, backslash};
-ghost use Rattle.zone_token.specs.Tokens.{ends_bare, is_bare, bare_from, is_in_quotes, quoted_from, comment_size};
+ghost use Rattle.zone_token.specs.Bytes.{line_feed, quote, backslash, size_until};
+ghost use Rattle.zone_token.specs.Tokens.{ends_bare, is_bare, bare_from, is_in_quotes, quoted_from, comment_size, is_plain, is_plain_quoted};
 
 use crate::bytes::{is_blank, is_escape, is_quotable, is_visible};
 use crate::fault::TextWhy;
@@ -86,14 +86,60 @@ fn is_in_quotes(escaped: bool, text: &[u8]) -> bool
     }
 }
 
+// Whether the byte stands in a bare token whatever stands around it, where no backslash stands before.
+fn is_plain(byte: u8) -> bool
+    ensures { result ≡ is_plain byte }
+{
+    matches!(byte, b'!' | b'#'..=b'\'' | b'*'..=b':' | b'<'..=b'[' | b']'..=b'~')
+}
+
+// The place of the first byte that is not plain.
+fn first_other(text: &[u8]) -> Option<usize>
+    ensures value { result ≡ position (λ byte. not (is_plain byte)) text.now }
+    ensures within { IfSome result (λ at. at < length text.now) }
+{
+    text.iter().position(|byte| !is_plain(*byte))
+}
+
+// How many plain bytes stand at the front of the text.
+fn plain_size(text: &[u8]) -> usize
+    ensures value { result ≡ size_until (λ byte. not (is_plain byte)) text.now }
+    ensures within { result ≤ length text.now }
+{
+    first_other(text).unwrap_or(text.len())
+}
+
+// Whether the byte stands in a quoted token whatever stands around it, where no backslash stands before.
+fn is_plain_quoted(byte: u8) -> bool
+    ensures { result ≡ is_plain_quoted byte }
+{
+    matches!(byte, b' ' | b'!' | b'#'..=b'[' | b']'..=b'~')
+}
+
+// The place of the first byte that is not one of these.
+fn first_other_quoted(text: &[u8]) -> Option<usize>
+    ensures value { result ≡ position (λ byte. not (is_plain_quoted byte)) text.now }
+    ensures within { IfSome result (λ at. at < length text.now) }
+{
+    text.iter().position(|byte| !is_plain_quoted(*byte))
+}
+
+// How many of these stand at the front of the text.
+fn plain_quoted_size(text: &[u8]) -> usize
+    ensures value { result ≡ size_until (λ byte. not (is_plain_quoted byte)) text.now }
+    ensures within { result ≤ length text.now }
+{
+    first_other_quoted(text).unwrap_or(text.len())
+}
+
 // How many bytes a bare token has at the front of the text.
 fn bare_size(text: &[u8]) -> Result<usize, TextWhy>
     ensures value { result ≡ bare_from false 0 text.now }
     ensures within { IfOk result (λ size. size ≤ length text.now) }
 {
     let mut escaped = false;
-    let mut size = 0;
-    let mut rest = text;
+    let mut size = plain_size(text);
+    let mut rest = &text[size..];
     while let [byte, after @ ..] = rest {
         if ends_here(escaped, rest) {
             return Ok(size);
@@ -118,8 +164,8 @@ fn quoted_size(text: &[u8]) -> Result<usize, TextWhy>
     ensures within { IfOk result (λ size. size < length text.now) }
 {
     let mut escaped = false;
-    let mut size = 0;
-    let mut rest = text;
+    let mut size = plain_quoted_size(text);
+    let mut rest = &text[size..];
     while let [byte, after @ ..] = rest {
         if *byte == b'\n' {
             return Err(TextWhy::OpenQuote);

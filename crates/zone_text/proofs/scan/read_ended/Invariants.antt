@@ -1,4 +1,4 @@
-use Rattle.std.proofs.Common.{◌-◌, take, drop}
+use Rattle.std.proofs.Common.{◌-◌, length, take, drop}
 use Rattle.zone_text.specs.Read.{seen}
 use Rattle.zone_text.proofs.ScanLemmas.{Scanned}
 use Rattle.zone_text.proofs.scan.read_ended.Given as goal
@@ -7,3 +7,6 @@ use Rattle.zone_text.proofs.scan.read_ended.Given as goal
 abbrev pub invariant-loop-here : goal.invariant-loop-here
 invariant-loop-here l =
     Scanned l.text (seen l.fn.progress) (take (l.fn.at - l.fn.progress.size) (drop l.fn.progress.size l.text)) l.fn.spot (drop l.fn.at l.text) (seen l.progress) l.spot l.here
+
+abbrev pub decreases-loop-here : goal.decreases-loop-here
+decreases-loop-here l = length l.text - l.here

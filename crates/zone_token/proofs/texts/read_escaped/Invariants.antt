@@ -1,7 +1,7 @@
 use Rattle.std.proofs.Common.{◌≡◌, ◌≤◌, length}
 use Rattle.zone_token.specs.Texts.{undone_from}
 use Rattle.zone_token.proofs.TextLemmas.{bytes_before}
-use Rattle.zone_token.proofs.texts.read_string.Given as goal
+use Rattle.zone_token.proofs.texts.read_escaped.Given as goal
 
 -- the bytes so far stand before those of the rest
 abbrev pub invariant-loop-rest : goal.invariant-loop-rest
