@@ -1,16 +1,17 @@
 -- What each stage of building says of the given records.
-use Rattle.std.proofs.Common.{◌≡◌, ℕ, ◌+◌, ◌<◌, ◌≤◌, List, [], ◌∷◌, ◌++◌, length, take, drop, get_or, Some, None, sym, ap, subst, ◌∙◌, arith}
+use Rattle.std.proofs.Common.{◌≡◌, ℕ, ◌+◌, ◌<◌, ◌≤◌, List, [], ◌∷◌, ◌++◌, length, take, drop, get_or, Option, Some, None, sym, ap, subst, ◌∙◌, arith}
 use Rattle.std.specs.Prelude.{Contains}
 use Rattle.naptr_data.specs.Zones.{Labels}
 use Rattle.dns_name.specs.Name.{IsBelow, folded_labels}
 use Rattle.dns_wire.specs.declared.record.Record.{Record}
-use Rattle.zone_build.specs.Zone.{Zone, IsCanonical, IsRising}
+use Rattle.zone_build.specs.Zone.{Zone, IsCanonical, IsPlain, IsRising, IsValid}
 use Rattle.zone_build.specs.Built.{IsBuilt}
 use Rattle.zone_build.specs.Faults.{IsFirst, IsWildcardCut, IsLarge, AreInside, AreUnmixed, IsZoneFault}
-use Rattle.zone_build.specs.Building.{Given, AreGivens, IsFirstMixed, IsFirstLarge, IsApex, IsEntryApex, IsStartFault, IsKeptList}
+use Rattle.zone_build.specs.Building.{Given, AreGivens, IsFirstMixed, IsFirstLarge, IsFirstCut, IsApex, IsEntryApex, IsStartFault, IsPlan, IsLastFault}
+use Rattle.zone_build.specs.declared.keep.Keep.{Keep}
 use Rattle.zone_build.specs.declared.fault.ZoneFault.{ZoneFault}
 use Rattle.zone_build.specs.declared.fault.ZoneFault.TheVariants as fault
-use Rattle.zone_build.proofs.BuildLemmas.{no_start, has_start, one_start, start_repeats, apex_of, inside_of, outside_first, unmixed_of, mixed_first, built_of}
+use Rattle.zone_build.proofs.BuildLemmas.{no_start, has_start, one_start, start_repeats, apex_of, inside_of, outside_first, unmixed_of, mixed_first, valid_of}
 use Rattle.zone_build.proofs.LargeLemmas.{first_at_start, first_behind, none_at_all}
 
 pub start_fault : (given : List Record) (entries : List Given) (f : ZoneFault) → AreGivens given entries → IsStartFault entries f → IsZoneFault given f
@@ -81,17 +82,31 @@ pub first_at : (P : Record → Type 0) (xs : List Record) (place : ℕ) (one x :
 first_at P xs place one x f is =
     at_middle f.before one f.behind x (subst (λ n. x ≡ get_or (f.before ++ one ∷ f.behind) n x) (sym f.at) (subst (λ l. x ≡ get_or l place x) f.parts is))
 
-pub large_fault : (given : List Record) (zone : Zone) (place : ℕ) (x : Record) → AreUnmixed given → IsBuilt given zone → IsFirstLarge zone.records (Some place) → x ≡ get_or zone.records place x → IsZoneFault given (fault.SetTooLarge x.owner x.kind)
-large_fault given zone place x free built (one, f) is =
-    let same = first_at (IsLarge zone.records) zone.records place one x f is in
-    (free, (zone, place, one, built, ap (λ (r : Record). r.owner) same, ap (λ (r : Record). r.kind) same, f))
+pub large_last : (kept : List Record) (cut : Option Labels) (place : ℕ) (x : Record) → IsFirstLarge kept (Some place) → x ≡ get_or kept place x → IsLastFault kept cut (fault.SetTooLarge x.owner x.kind)
+large_last kept cut place x (one, f) is =
+    let same = first_at (IsLarge kept) kept place one x f is in
+    (place, one, ap (λ (r : Record). r.owner) same, ap (λ (r : Record). r.kind) same, f)
 
-pub wild_fault : (given : List Record) (zone : Zone) (place : ℕ) (x : Record) (name : Labels) → AreUnmixed given → IsBuilt given zone → IsFirstLarge zone.records None → (one : Record) × IsFirst IsWildcardCut given place one → x ≡ get_or given place x → name ≡ folded_labels x.owner → IsZoneFault given (fault.WildcardCut name)
-wild_fault given zone place x name free built small (one, f) is named =
-    let same = first_at IsWildcardCut given place one x f is in
-    (free, (zone, built, small), (place, one, named ∙ ap (λ (r : Record). folded_labels r.owner) same, f))
+pub cut_at : (given : List Record) (place : ℕ) (x : Record) (name : Labels) → (one : Record) × IsFirst IsWildcardCut given place one → x ≡ get_or given place x → name ≡ folded_labels x.owner → IsFirstCut given (Some name)
+cut_at given place x name (one, f) is named =
+    (place, one, named ∙ ap (λ (r : Record). folded_labels r.owner) (first_at IsWildcardCut given place one x f is), f)
 
--- the kept list makes the built zone
-pub built_list : (given : List Record) (entries : List Given) (apex : Labels) (kept : List Record) → AreGivens given entries → AreUnmixed given → IsApex given apex → IsKeptList entries kept → IsBuilt given (record { apex = apex; records = kept })
-built_list given entries apex kept are free is (first, others, parts, a, b) =
-    subst (λ l. IsBuilt given (record { apex = apex; records = l })) (sym parts) (built_of given entries apex first others are free.inside.some free.inside.one is a b)
+-- what is wrong with the records that are kept is what is wrong with the given ones
+pub last_is_fault : (given : List Record) (zone : Zone) (keeps : List Keep) (cut : Option Labels) (f : ZoneFault) → IsPlan given zone.apex keeps cut → IsBuilt given zone → IsLastFault zone.records cut f → IsZoneFault given f
+last_is_fault given zone keeps cut fault.NoSoa p built l = absurd l
+last_is_fault given zone keeps cut fault.TwoSoa p built l = absurd l
+last_is_fault given zone keeps cut (fault.OutOfZone place) p built l = absurd l
+last_is_fault given zone keeps cut (fault.AliasClash name) p built l = absurd l
+last_is_fault given zone keeps cut (fault.SetTooLarge name kind) p built (place, one, named, of_kind, f) =
+    (p.unmixed, (zone, place, one, built, named, of_kind, f))
+last_is_fault given zone keeps cut (fault.WildcardCut name) p built (small, is) =
+    (p.unmixed, (zone, built, small), there (subst (IsFirstCut given) is p.first_cut))
+  where
+    there : IsFirstCut given (Some name) → (place : ℕ) × (one : Record) × (name ≡ folded_labels one.owner) × IsFirst IsWildcardCut given place one
+    there cut_is = cut_is
+last_is_fault given zone keeps cut fault.Memory p built l = absurd l
+
+-- where nothing is wrong with them, they make a valid zone
+pub plan_valid : (given : List Record) (zone : Zone) (keeps : List Keep) (cut : Option Labels) → ((one : Record) → Contains given one → IsPlain one) → IsPlan given zone.apex keeps cut → IsBuilt given zone → IsFirstLarge zone.records None × (cut ≡ None) → IsValid zone
+plan_valid given zone keeps cut plain p built (small, is) =
+    valid_of given zone plain p.unmixed built small (subst (IsFirstCut given) is p.first_cut)

@@ -1,5 +1,5 @@
 -- The first set that is too large, where one SOA stands before records that rise.
-use Rattle.std.proofs.Common.{◌≡◌, ◌≢◌, ◌⊎◌, inl, inr, ℕ, suc, ◌+◌, ◌<◌, List, [], ◌∷◌, ◌++◌, length, Some, None, refl, sym, ap, subst, ◌∙◌, arith, length-append}
+use Rattle.std.proofs.Common.{◌≡◌, ◌≢◌, ◌⊎◌, inl, inr, ℕ, suc, ◌+◌, ◌<◌, List, [], ◌∷◌, ◌++◌, Some, None, refl, sym, ap, subst, ◌∙◌, arith}
 use Rattle.std.specs.Prelude.{Contains}
 use Rattle.std.specs.List.{AllByRecursion}
 use Rattle.std.proofs.lemmas.List.Elements.{Contains-append_left}
@@ -8,7 +8,7 @@ use Rattle.naptr_data.specs.Zones.{Labels}
 use Rattle.dns_wire.specs.Kinds.{soa}
 use Rattle.dns_wire.specs.declared.record.Record.{Record}
 use Rattle.zone_build.specs.Zone.{IsIn, IsSet, IsCanonical, weight}
-use Rattle.zone_build.specs.Faults.{IsFirst, IsLarge}
+use Rattle.zone_build.specs.Faults.{IsLarge}
 use Rattle.zone_build.specs.Building.{IsFirstLarge}
 use Rattle.zone_build.proofs.ListLemmas.{AllByRecursion-contains, AllByRecursion-made, only_one}
 use Rattle.zone_build.proofs.SizeLemmas.{one_set}
@@ -100,9 +100,3 @@ none_at_all a others c none none' one k l = elim (head_or_behind a others one k)
   | inl here ↦ none a (Contains-head a []) (start_large a others [] c.0 c.1 tt (subst (IsLarge (a ∷ others)) here l))
   | inr behind ↦ none' one behind (large_tail a one others c.0 c.1 behind l)
 ]
-
-pub first_within : (P : Record → Type 0) (xs : List Record) (place : ℕ) (x : Record) → IsFirst P xs place x → place < length xs
-first_within P xs place x f =
-    let size = ap length f.parts ∙ length-append f.before (x ∷ f.behind) in
-    let at = f.at in
-    omega (arith, size, at)

@@ -1,3 +1,4 @@
+pub mod ArrangeLemmas
 pub mod BuildLemmas
 pub mod ClashLemmas
 pub mod CountLemmas
@@ -12,6 +13,7 @@ pub mod MergeLemmas
 pub mod OneFaultLemmas
 pub mod OneZoneLemmas
 pub mod OrderLemmas
+pub mod PlanLemmas
 pub mod RdataLemmas
 pub mod RunLemmas
 pub mod SetRunLemmas

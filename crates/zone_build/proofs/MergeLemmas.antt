@@ -1,9 +1,9 @@
 -- The records that are kept, run after run.
-use Rattle.std.proofs.Common.{◌≡◌, ◌⊎◌, inl, inr, ℕ, ◌+◌, ◌≤◌, Bool, List, [], ◌∷◌, ◌++◌, length, take, drop, get_or, sym, ap, subst, ◌∙◌, append_assoc, append-nil}
+use Rattle.std.proofs.Common.{◌≡◌, ◌⊎◌, inl, inr, ℕ, ◌+◌, ◌≤◌, Bool, List, [], ◌∷◌, ◌++◌, length, take, drop, get_or, refl, sym, ap, subst, ◌∙◌, append_assoc, append-nil, map}
 use Rattle.std.specs.Prelude.{Contains}
 use Rattle.std.specs.declared.cmp.Ordering.TheVariants.{Less}
 use Rattle.std.proofs.Common.{◌==◌}
-use Rattle.std.proofs.lemmas.List.{drop_all, drop-drop}
+use Rattle.std.proofs.lemmas.List.{drop_all, drop-drop, map-append}
 use Rattle.std.proofs.lemmas.List.Elements.{Contains-append_left, Contains-append_right, Contains-append_cases}
 use Rattle.naptr_data.proofs.CutLemmas.{Contains-head, Contains-behind, Contains-none}
 use Rattle.dns_name.proofs.NameLemmas.{AllByRecursion-append}
@@ -13,7 +13,8 @@ use Rattle.dns_wire.specs.Kinds.{soa}
 use Rattle.dns_wire.specs.Rdata.{rdata_of}
 use Rattle.dns_wire.specs.declared.record.Record.{Record}
 use Rattle.zone_build.specs.Zone.{AreOneSet, AreRepeats, IsRising, order_of}
-use Rattle.zone_build.specs.Building.{Given, key_order, AreAlike, IsRun, IsLeast, IsCopy, IsEarliest, IsFirstCopy, IsStable, AreMerged, IsAtStart, IsSetTtl, IsKeptOf, IsMergedSet}
+use Rattle.zone_build.specs.Building.{Given, Chosen, keep_of, copy_of, settled, AreAmong, key_order, AreAlike, IsRun, IsLeast, IsCopy, IsEarliest, IsFirstCopy, IsStable, AreMerged, IsAtStart, IsSetTtl, IsKeptOf, IsMergedSet}
+use Rattle.zone_build.specs.declared.keep.Keep.{Keep}
 use Rattle.zone_build.specs.declared.key.Key.{Key}
 use Rattle.zone_build.specs.declared.key.Key.TheVariants.{Set, Whole}
 use Rattle.zone_build.proofs.ListLemmas.{take_in, drop_in, part_of, only_one, AllByRecursion-made}
@@ -98,23 +99,36 @@ kept_repeats all e one (ttl, least, copy, first) = copy_repeats ttl e one copy
 pub first_copy_repeats : (all : List Given) (ttl : ℕ) (e : Given) (one : Record) → IsFirstCopy all ttl e one → AreRepeats e.given one
 first_copy_repeats all ttl e one (first, copy) = copy_repeats ttl e one copy
 
+-- the record that is kept of a chosen one
+pub chosen_copy : (ttl : ℕ) (e : Given) → IsCopy ttl e (settled ttl e.given)
+chosen_copy ttl e = record { owner = refl; kind = refl; class = refl; content = refl; ttl = refl }
+
 -- what was added, while records are kept
-abbrev pub IsMergingFrom : Key → (Given → Type 0) → (Given → Record → Type 0) → List Given → ℕ → List Record → List Record → Type 0
-IsMergingFrom key P R all at old now = (added : List Record) × (now ≡ old ++ added) × IsMerging key P R all (drop at all) added
+abbrev pub IsMergingFrom : Key → (Given → Type 0) → (Given → Record → Type 0) → List Given → ℕ → List Keep → List Keep → Type 0
+IsMergingFrom key P R all at old now =
+    (added : List Chosen) × (now ≡ old ++ map keep_of added) × AreAmong all added × IsMerging key P R all (drop at all) (map copy_of added)
 
-pub from_none : (key : Key) (P : Given → Type 0) (R : Given → Record → Type 0) (all : List Given) (old : List Record) → IsMergingFrom key P R all 0 old old
-from_none key P R all old = ([], sym (append-nil old), merging_none key P R all)
+pub from_none : (key : Key) (P : Given → Type 0) (R : Given → Record → Type 0) (all : List Given) (old : List Keep) → IsMergingFrom key P R all 0 old old
+from_none key P R all old = ([], sym (append-nil old), λ one c. absurd (Contains-none one c), merging_none key P R all)
 
-pub from_more : (key : Key) (P : Given → Type 0) (R : Given → Record → Type 0) → ((e : Given) (one : Record) → R e one → AreRepeats e.given one) → (all part : List Given) (at n : ℕ) (old now new : List Record) → IsMergingFrom key P R all at old now → IsRun key (drop at all) n → part ≡ take n (drop at all) → AreMerged P R part new → IsMergingFrom key P R all (at + n) old (now ++ new)
-from_more key P R repeats all part at n old now new (added, is, m) run cut made = (
+pub from_more : (key : Key) (P : Given → Type 0) (R : Given → Record → Type 0) → ((e : Given) (one : Record) → R e one → AreRepeats e.given one) → (all part : List Given) (at n : ℕ) (old now : List Keep) (new : List Chosen) → IsMergingFrom key P R all at old now → IsRun key (drop at all) n → part ≡ take n (drop at all) → AreAmong part new → AreMerged P R part (map copy_of new) → IsMergingFrom key P R all (at + n) old (now ++ map keep_of new)
+from_more key P R repeats all part at n old now new (added, is, among, m) run cut fresh made = (
   added ++ new,
-  ap (λ l. l ++ new) is ∙ append_assoc old added new,
-  subst (λ l. IsMerging key P R all l (added ++ new)) (drop-drop n at all) (merging_more key P R repeats all (drop at all) added new n m run (subst (λ l. AreMerged P R l new) cut made)),
+  ap (λ l. l ++ map keep_of new) is ∙ append_assoc old (map keep_of added) (map keep_of new) ∙ ap (λ l. old ++ l) (sym (map-append keep_of added new)),
+  λ one c. elim (Contains-append_cases added new one c) [
+    | inl before ↦ among one before
+    | inr after ↦ drop_in at all one.from (take_in n (drop at all) one.from (subst (λ l. Contains l one.from) cut (fresh one after)))
+  ],
+  subst (IsMerging key P R all (drop (at + n) all)) (sym (map-append copy_of added new)) (subst (λ l. IsMerging key P R all l (map copy_of added ++ map copy_of new)) (drop-drop n at all) (merging_more key P R repeats all (drop at all) (map copy_of added) (map copy_of new) n m run (subst (λ l. AreMerged P R l (map copy_of new)) cut made))),
 )
 
-pub from_all : (key : Key) (P : Given → Type 0) (R : Given → Record → Type 0) (all : List Given) (at : ℕ) (old now : List Record) → length all ≤ at → IsMergingFrom key P R all at old now → (added : List Record) × (now ≡ old ++ added) × AreMerged P R all added
-from_all key P R all at old now end (added, is, m) =
-    (added, is, merging_all key P R all (drop at all) added m (drop_all at all end))
+pub from_all : (key : Key) (P : Given → Type 0) (R : Given → Record → Type 0) (all : List Given) (at : ℕ) (old now : List Keep) → length all ≤ at → IsMergingFrom key P R all at old now → (added : List Chosen) × (now ≡ old ++ map keep_of added) × AreAmong all added × AreMerged P R all (map copy_of added)
+from_all key P R all at old now end (added, is, among, m) =
+    (added, is, among, merging_all key P R all (drop at all) (map copy_of added) m (drop_all at all end))
+
+-- one entry is among its own
+pub one_among : (part : List Given) (head : Given) (ttl : ℕ) → Contains part head → AreAmong part (record { from = head; ttl = ttl } ∷ [])
+one_among part head ttl c one d = subst (λ (x : Chosen). Contains part x.from) (sym (only_one (record { from = head; ttl = ttl }) one d)) c
 
 -- one of alike entries is kept for all of them
 pub one_kept : (all : List Given) (ttl : ℕ) (part : List Given) (head : Given) (kept : Record) → Contains part head → ((one other : Given) → Contains part one → Contains part other → AreRepeats one.given other.given) → IsEarliest all head → IsCopy ttl head kept → AreMerged (λ e. Unit {0}) (IsFirstCopy all ttl) part (kept ∷ [])
@@ -183,20 +197,20 @@ run_here key all part at n run cut one other c d =
     run.here one other (subst (λ l. Contains l one) cut c) (subst (λ l. Contains l other) cut d)
 
 -- one set is added
-pub set_added : (start : Bool) (all part : List Given) (at n : ℕ) (head : Given) (first old new : List Record) → IsMergingFrom Set (IsAtStart start) (IsKeptOf all) all at first old → IsRun Set (drop at all) n → part ≡ take n (drop at all) → Contains part head → IsAtStart start head → IsMergedSet part old new → IsMergingFrom Set (IsAtStart start) (IsKeptOf all) all (at + n) first new
-set_added start all part at n head first old new m run cut among is (added, ttl, added_is, least, made) =
-    subst (IsMergingFrom Set (IsAtStart start) (IsKeptOf all) all (at + n) first) (sym added_is) (from_more Set (IsAtStart start) (IsKeptOf all) (kept_repeats all) all part at n first old added m run cut (record {
+pub set_added : (start : Bool) (all part : List Given) (at n : ℕ) (head : Given) (first old new : List Keep) → IsMergingFrom Set (IsAtStart start) (IsKeptOf all) all at first old → IsRun Set (drop at all) n → part ≡ take n (drop at all) → Contains part head → IsAtStart start head → IsMergedSet part old new → IsMergingFrom Set (IsAtStart start) (IsKeptOf all) all (at + n) first new
+set_added start all part at n head first old new m run cut among is (added, ttl, added_is, least, chosen, made) =
+    subst (IsMergingFrom Set (IsAtStart start) (IsKeptOf all) all (at + n) first) (sym added_is) (from_more Set (IsAtStart start) (IsKeptOf all) (kept_repeats all) all part at n first old added m run cut chosen (record {
       from = λ one c.
           let f = made.from one c in
-          (f.0, f.1, same_start start part head f.0 (run_here Set all part at n run cut) among f.1 is, (ttl, set_ttl all part at n (IsAtStart start) m.0 ttl f.0 m.2 run cut least f.1, f.3.1, set_earliest all part at n (IsAtStart start) (IsKeptOf all) m.0 f.0 m.2 run cut f.1 f.3.0));
+          (f.0, f.1, same_start start part head f.0 (run_here Set all part at n run cut) among f.1 is, (ttl, set_ttl all part at n (IsAtStart start) (map copy_of m.0) ttl f.0 m.3 run cut least f.1, f.3.1, set_earliest all part at n (IsAtStart start) (IsKeptOf all) (map copy_of m.0) f.0 m.3 run cut f.1 f.3.0));
       each = λ e c p. made.each e c tt;
       rising = made.rising;
     }))
 
 -- one set is passed over
-pub set_passed : (start : Bool) (all part : List Given) (at n : ℕ) (head : Given) (first old : List Record) → IsMergingFrom Set (IsAtStart start) (IsKeptOf all) all at first old → IsRun Set (drop at all) n → part ≡ take n (drop at all) → Contains part head → ¬ IsAtStart start head → IsMergingFrom Set (IsAtStart start) (IsKeptOf all) all (at + n) first old
+pub set_passed : (start : Bool) (all part : List Given) (at n : ℕ) (head : Given) (first old : List Keep) → IsMergingFrom Set (IsAtStart start) (IsKeptOf all) all at first old → IsRun Set (drop at all) n → part ≡ take n (drop at all) → Contains part head → ¬ IsAtStart start head → IsMergingFrom Set (IsAtStart start) (IsKeptOf all) all (at + n) first old
 set_passed start all part at n head first old m run cut among not =
-    subst (IsMergingFrom Set (IsAtStart start) (IsKeptOf all) all (at + n) first) (append-nil old) (from_more Set (IsAtStart start) (IsKeptOf all) (kept_repeats all) all part at n first old [] m run cut (record {
+    subst (IsMergingFrom Set (IsAtStart start) (IsKeptOf all) all (at + n) first) (append-nil old) (from_more Set (IsAtStart start) (IsKeptOf all) (kept_repeats all) all part at n first old [] m run cut (λ one c. absurd (Contains-none one c)) (record {
       from = λ one c. absurd (Contains-none one c);
       each = λ e c p. absurd (not (same_start start part e head (run_here Set all part at n run cut) c among p));
       rising = tt;

@@ -166,8 +166,8 @@ pub later_apart : (key : Key) (one other : Record) → key_order key one other �
 later_apart key one other l a = cc (sym l, alike_equal key one other a)
 
 -- numbers that differ tell the order of the owners
-pub keys_apart : (one other : Record) (kind front kind' front' : ℕ) (rdata rdata' : List ℕ) (o : Ordering) → AreKeys one kind front rdata → AreKeys other kind' front' rdata' → o ≡ nat_cmp front front' → o ≢ Equal → o ≡ owner_order one other
-keys_apart one other kind front kind' front' rdata rdata' o keys keys' is not =
+pub keys_apart : (one other : Record) (kind ttl front kind' ttl' front' : ℕ) (rdata rdata' : List ℕ) (o : Ordering) → AreKeys one kind ttl front rdata → AreKeys other kind' ttl' front' rdata' → o ≡ nat_cmp front front' → o ≢ Equal → o ≡ owner_order one other
+keys_apart one other kind ttl front kind' ttl' front' rdata rdata' o keys keys' is not =
     fronts_apart 16 (folded (wire_of one.owner)) (folded (wire_of other.owner)) o keys.bytes keys'.bytes (is ∙ ap (λ n. nat_cmp n front') keys.of_owner ∙ ap (nat_cmp (front_of 16 (folded (wire_of one.owner)))) keys'.of_owner) not
     ∙ wires_cmp one.owner other.owner keys.name keys'.name
 

@@ -82,8 +82,8 @@ same_kind one other p q same =
     sym (kind_is one.content one.kind one.class one.belongs p.whole) ∙ same ∙ kind_is other.content other.kind other.class other.belongs q.whole
 
 -- what is compared of records of one kind that are no rules is their RDATA
-pub whole_cmp : (one other : Record) (kind front kind' front' : ℕ) (bytes bytes' : List ℕ) → AreKeys one kind front bytes → AreKeys other kind' front' bytes' → IsNoRule one.content → one.kind ≡ other.kind → bytes_cmp bytes bytes' ≡ bytes_cmp (rdata_of one.content) (rdata_of other.content)
-whole_cmp one other kind front kind' front' bytes bytes' keys keys' none same =
+pub whole_cmp : (one other : Record) (kind ttl front kind' ttl' front' : ℕ) (bytes bytes' : List ℕ) → AreKeys one kind ttl front bytes → AreKeys other kind' ttl' front' bytes' → IsNoRule one.content → one.kind ≡ other.kind → bytes_cmp bytes bytes' ≡ bytes_cmp (rdata_of one.content) (rdata_of other.content)
+whole_cmp one other kind ttl front kind' ttl' front' bytes bytes' keys keys' none same =
     ap (λ l. bytes_cmp l bytes') (keys.of_content ∙ sym (compared_whole one.content none))
     ∙ ap (bytes_cmp (rdata_of one.content)) (keys'.of_content ∙ sym (compared_whole other.content (no_rules one.content other.content none (same_kind one other keys.plain keys'.plain same))))
 

@@ -12,10 +12,11 @@ use Rattle.dns_wire.specs.declared.content.Content.{Content}
 use Rattle.dns_wire.specs.declared.content.Content.TheVariants as content
 use Rattle.dns_wire.specs.declared.record.Record.{Record}
 use Rattle.zone_build.specs.Zone.{AreOneSet, AreRepeats, IsPlain, IsRising, owner_order, order_of}
-use Rattle.zone_build.specs.Faults.{IsFirst, IsLarge}
+use Rattle.zone_build.specs.Faults.{AreUnmixed, IsFirst, IsLarge, IsWildcardCut}
 use Rattle.naptr_data.specs.Zones.{Labels}
 use Rattle.zone_build.specs.declared.fault.ZoneFault.{ZoneFault}
 use Rattle.zone_build.specs.declared.fault.ZoneFault.TheVariants as fault
+use Rattle.zone_build.specs.declared.keep.Keep.{Keep}
 use Rattle.zone_build.specs.declared.key.Key.{Key}
 use Rattle.zone_build.specs.declared.key.Key.TheVariants.{Owner, Set, Whole}
 
@@ -39,11 +40,13 @@ abbrev pub compared_bytes : Content → List ℕ
 compared_bytes (content.Naptr rule) = []
 compared_bytes said = rdata_of said
 
--- what a record is compared by: its kind, the number that its folded owner begins with, and its RDATA unless it is a rule
-pub record AreKeys (given : Record) (kind front : ℕ) (rdata : List ℕ) : Type 0 where
+-- what an entry holds of its record: the kind, the TTL, the number that the folded owner begins with, and the RDATA unless
+-- it is a rule
+pub record AreKeys (given : Record) (kind ttl front : ℕ) (rdata : List ℕ) : Type 0 where
   pub plain : IsPlain given
   pub name : IsName given.owner
   pub of_kind : kind ≡ given.kind
+  pub of_ttl : ttl ≡ given.ttl
   pub bytes : (at : ℕ) → at < 16 → slice_index_or (folded (wire_of given.owner)) at 0 < 256
   pub of_owner : front ≡ front_of 16 (folded (wire_of given.owner))
   pub of_content : rdata ≡ compared_bytes given.content
@@ -137,14 +140,38 @@ pub record IsSetTtl (all : List Given) (one : Given) (ttl : ℕ) : Type 0 where
 abbrev pub IsKeptOf : List Given → Given → Record → Type 0
 IsKeptOf all e kept = (ttl : ℕ) × IsSetTtl all e ttl × IsCopy ttl e kept × IsEarliest all e
 
+-- a given record that is kept, with this TTL
+pub record Chosen : Type 0 where
+  pub from : Given
+  pub ttl : ℕ
+
+-- where it stands, and its TTL
+abbrev pub keep_of : Chosen → Keep
+keep_of one = record { place = one.from.place; ttl = one.ttl }
+
+-- a record with its owner folded, and with that TTL
+abbrev pub settled : ℕ → Record → Record
+settled ttl one = record { owner = folded_labels one.owner; kind = one.kind; class = one.class; ttl = ttl; content = one.content; belongs = one.belongs }
+
+-- what is kept of it
+abbrev pub copy_of : Chosen → Record
+copy_of one = settled one.ttl one.from.given
+
+-- all are chosen of these entries
+abbrev pub AreAmong : List Given → List Chosen → Type 0
+AreAmong all chosen = (one : Chosen) → Contains chosen one → Contains all one.from
+
 -- after one set was added: each of its records once, with its least TTL
-abbrev pub IsMergedSet : List Given → List Record → List Record → Type 0
+abbrev pub IsMergedSet : List Given → List Keep → List Keep → Type 0
 IsMergedSet set old new =
-    (added : List Record) × (ttl : ℕ) × (new ≡ old ++ added) × IsLeast set ttl × AreMerged (λ e. Unit {0}) (IsFirstCopy set ttl) set added
+    (added : List Chosen) × (ttl : ℕ) × (new ≡ old ++ map keep_of added) × IsLeast set ttl × AreAmong set added
+    × AreMerged (λ e. Unit {0}) (IsFirstCopy set ttl) set (map copy_of added)
 
 -- after the SOA, or all but the SOA, was added
-abbrev pub AreMergedSets : Bool → List Given → List Record → List Record → Type 0
-AreMergedSets start all old new = (added : List Record) × (new ≡ old ++ added) × AreMerged (IsAtStart start) (IsKeptOf all) all added
+abbrev pub AreMergedSets : Bool → List Given → List Keep → List Keep → Type 0
+AreMergedSets start all old new =
+    (added : List Chosen) × (new ≡ old ++ map keep_of added) × AreAmong all added
+    × AreMerged (IsAtStart start) (IsKeptOf all) all (map copy_of added)
 
 -- the least place of some records
 pub record IsLeastPlace (all : List Given) (place : ℕ) : Type 0 where
@@ -199,7 +226,46 @@ IsStartFault entries (fault.WildcardCut name) = ⊥
 IsStartFault entries fault.Memory = ⊥
 
 -- what is kept of the SOA records, and then of the others
-abbrev pub IsKeptList : List Given → List Record → Type 0
-IsKeptList entries kept =
-    (first : List Record) × (others : List Record) × (kept ≡ first ++ others)
-    × AreMerged (IsAtStart true) (IsKeptOf entries) entries first × AreMerged (IsAtStart false) (IsKeptOf entries) entries others
+abbrev pub IsKeptList : List Given → List Keep → Type 0
+IsKeptList entries keeps =
+    (first : List Chosen) × (others : List Chosen) × (keeps ≡ map keep_of first ++ map keep_of others)
+    × AreAmong entries first × AreAmong entries others
+    × AreMerged (IsAtStart true) (IsKeptOf entries) entries (map copy_of first)
+    × AreMerged (IsAtStart false) (IsKeptOf entries) entries (map copy_of others)
+
+-- what is kept stands at different places of a list of that length
+pub record AreApart (size : ℕ) (keeps : List Keep) : Type 0 where
+  pub within : (k : ℕ) (d : Keep) → k < length keeps → (slice_index_or keeps k d).place < size
+  pub apart : (j k : ℕ) (d : Keep) → j < k → k < length keeps → (slice_index_or keeps j d).place ≢ (slice_index_or keeps k d).place
+
+-- the records are those that are kept of the given ones, in this order
+pub record AreSettled (given : List Record) (keeps : List Keep) (kept : List Record) : Type 0 where
+  pub size : length kept ≡ length keeps
+  pub each : (k : ℕ) (d : Record) (e : Keep) → k < length keeps
+      → slice_index_or kept k d ≡ settled (slice_index_or keeps k e).ttl (slice_index_or given (slice_index_or keeps k e).place d)
+
+-- the folded owner of the first delegated wildcard, where there is one
+abbrev pub IsFirstCut : List Record → Option Labels → Type 0
+IsFirstCut given None = (one : Record) → Contains given one → ¬ IsWildcardCut one
+IsFirstCut given (Some name) =
+    (place : ℕ) × (one : Record) × (name ≡ folded_labels one.owner) × IsFirst IsWildcardCut given place one
+
+-- how a zone is made of given records: its apex, what is kept, and the first delegated wildcard
+pub record IsPlan (given : List Record) (apex : Labels) (keeps : List Keep) (cut : Option Labels) : Type 0 where
+  pub entries : List Given
+  pub givens : AreGivens given entries
+  pub unmixed : AreUnmixed given
+  pub apex_is : IsApex given apex
+  pub kept : IsKeptList entries keeps
+  pub first_cut : IsFirstCut given cut
+
+-- what is wrong with records that are kept: the first set that is too large, or else the first delegated wildcard
+abbrev pub IsLastFault : List Record → Option Labels → ZoneFault → Type 0
+IsLastFault kept cut fault.NoSoa = ⊥
+IsLastFault kept cut fault.TwoSoa = ⊥
+IsLastFault kept cut (fault.OutOfZone place) = ⊥
+IsLastFault kept cut (fault.AliasClash name) = ⊥
+IsLastFault kept cut (fault.SetTooLarge name kind) =
+    (place : ℕ) × (one : Record) × (name ≡ one.owner) × (kind ≡ one.kind) × IsFirst (IsLarge kept) kept place one
+IsLastFault kept cut (fault.WildcardCut name) = IsFirstLarge kept None × (cut ≡ Some name)
+IsLastFault kept cut fault.Memory = ⊥

@@ -19,6 +19,7 @@ pub(crate) struct Entry<'a> {
     place: usize,
     given: &'a Record,
     kind: u16,
+    ttl: u32,
     // The number that the folded owner begins with.
     front: u128,
     // The RDATA, unless it is that of a rule.
@@ -33,11 +34,11 @@ impl<'a> Model for Entry<'a> {
 
     ghost view = { λ e. record { place = e.place; given = e.given.now } };
 
-    ghost invariant = { λ e. AreKeys e.given.now e.kind e.front e.rdata };
+    ghost invariant = { λ e. AreKeys e.given.now e.kind e.ttl e.front e.rdata };
 }
 
 impl<'a> Entry<'a> {
-    ghost use Rattle.zone_build.specs.Building.{key_order, entry_order, AreAlike, IsCopy};
+    ghost use Rattle.zone_build.specs.Building.{key_order, entry_order, AreAlike};
     ghost use Rattle.zone_build.specs.Zone.{IsPlain, owner_order, order_of};
     ghost use Rattle.std.specs.Ordering.{ordering_then};
     ghost use Rattle.dns_wire.specs.Rdata.{rdata_of};
@@ -56,6 +57,7 @@ impl<'a> Entry<'a> {
             place,
             given,
             kind: given.kind,
+            ttl: given.ttl,
             front: front_of(given.owner.wire()),
             rdata: compared_bytes(alloc, &given.content)?,
         })
@@ -77,6 +79,12 @@ impl<'a> Entry<'a> {
         ensures { result ≡ self.now.given.kind }
     {
         self.kind
+    }
+
+    pub(crate) fn ttl(&self) -> u32
+        ensures { result ≡ self.now.given.ttl }
+    {
+        self.ttl
     }
 
     /// The order of the records by that key.
@@ -160,19 +168,5 @@ impl<'a> Entry<'a> {
             Content::Naptr(rule) => cmp_rule(rule, &other.given.content),
             _ => rdata.cmp(other_rdata),
         }
-    }
-
-    /// The record as it is kept: its owner folded, with this TTL.
-    pub(crate) fn kept(&self, alloc: Global, ttl: u32) -> Result<Record, MemoryFault>
-        ensures { IfOk result (IsCopy ttl self.now) }
-    {
-        let given = self.given;
-        Ok(Record {
-            owner: given.owner.fold(),
-            kind: given.kind,
-            class: given.class,
-            ttl,
-            content: given.content.copy(alloc)?,
-        })
     }
 }

@@ -1,6 +1,7 @@
 //! Zones of given records (RFC 1034, 4.2).
 #![tactic(auto)]
 
+mod arrange;
 mod build;
 mod clash;
 mod count;
@@ -8,6 +9,7 @@ mod entry;
 mod fault;
 mod find;
 mod front;
+mod keep;
 mod key;
 mod laws;
 mod merge;

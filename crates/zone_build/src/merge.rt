@@ -1,22 +1,29 @@
-//! The records that are kept of given ones.
-ghost use Rattle.std.specs.Prelude.{◌≡◌, ◌==◌, ◌<◌, length, OnOk};
+//! Which given records are kept.
+ghost use Rattle.std.specs.Prelude.{◌≡◌, ◌==◌, ◌<◌, length, IfOk, OnOk};
 ghost use Rattle.dns_wire.specs.Kinds.{soa};
-ghost use Rattle.zone_build.specs.Building.{IsOrdered, IsStable, IsLeast, IsMergedSet, AreMergedSets};
+ghost use Rattle.zone_build.specs.Building.{IsOrdered, IsStable, IsLeast, IsMergedSet, AreMergedSets, IsKeptList};
 
 use crate::entry::Entry;
+use crate::keep::Keep;
 use crate::key::Key;
 use crate::run::run_at;
-use dns_wire::Record;
 use enum_base::MemoryFault;
 use std::alloc::Global;
 
-/// Appends the records that are kept of the SOA, or of all but the SOA.
-pub(crate) fn push_sets(
-    alloc: Global,
-    sorted: &[Entry<'_>],
-    start: bool,
-    out: &mut Vec<Record>,
-) -> Result<(), MemoryFault>
+/// What is kept: the SOA, and then the others.
+pub(crate) fn kept_of(alloc: Global, sorted: &[Entry<'_>]) -> Result<Vec<Keep>, MemoryFault>
+    requires ordered { IsOrdered sorted.now }
+    requires stable { IsStable sorted.now }
+    ensures { IfOk result (λ keeps. IsKeptList sorted.now keeps.items) }
+{
+    let mut keeps = Vec::with_capacity(alloc, sorted.len())?;
+    push_sets(sorted, true, &mut keeps)?;
+    push_sets(sorted, false, &mut keeps)?;
+    Ok(keeps)
+}
+
+// Appends what is kept of the SOA, or of all but the SOA.
+fn push_sets(sorted: &[Entry<'_>], start: bool, out: &mut Vec<Keep>) -> Result<(), MemoryFault>
     requires ordered { IsOrdered sorted.now }
     requires stable { IsStable sorted.now }
     ensures { OnOk result (AreMergedSets start sorted.now out.old.items out.new.items) }
@@ -25,15 +32,15 @@ pub(crate) fn push_sets(
     while at < sorted.len() {
         let set = run_at(sorted, at, Key::Set);
         if is_start(&set[0]) == start {
-            push_set(alloc, set, out)?;
+            push_set(set, out)?;
         }
         at += set.len();
     }
     Ok(())
 }
 
-// Appends the records that are kept of one set, each once and all with its least TTL.
-fn push_set(alloc: Global, set: &[Entry<'_>], out: &mut Vec<Record>) -> Result<(), MemoryFault>
+// Appends what is kept of one set: of repeats the first, and all with the least TTL.
+fn push_set(set: &[Entry<'_>], out: &mut Vec<Keep>) -> Result<(), MemoryFault>
     requires some { 0 < length set.now }
     requires ordered { IsOrdered set.now }
     requires stable { IsStable set.now }
@@ -43,7 +50,10 @@ fn push_set(alloc: Global, set: &[Entry<'_>], out: &mut Vec<Record>) -> Result<(
     let mut at = 0;
     while at < set.len() {
         let repeats = run_at(set, at, Key::Whole);
-        out.push(repeats[0].kept(alloc, ttl)?)?;
+        out.push(Keep {
+            place: repeats[0].place(),
+            ttl,
+        })?;
         at += repeats.len();
     }
     Ok(())
@@ -61,9 +71,9 @@ fn least_ttl(set: &[Entry<'_>]) -> u32
     requires { 0 < length set.now }
     ensures { IsLeast set.now result }
 {
-    let mut least = set[0].record().ttl;
+    let mut least = set[0].ttl();
     for entry in set {
-        let ttl = entry.record().ttl;
+        let ttl = entry.ttl();
         if ttl < least {
             least = ttl;
         }

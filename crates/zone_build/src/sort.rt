@@ -29,7 +29,7 @@ fn entries_of(alloc: Global, records: &[Record]) -> Result<Vec<Entry<'_>>, Memor
     requires { (one : Record) → Contains records.now one → IsPlain one }
     ensures { IfOk result (λ entries. entries.items ≡ givens_from 0 records.now) }
 {
-    let mut entries = Vec::new(alloc);
+    let mut entries = Vec::with_capacity(alloc, records.len())?;
     for (place, given) in records.iter().enumerate() {
         entries.push(Entry::new(alloc, place, given)?)?;
     }

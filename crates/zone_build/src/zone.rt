@@ -1,12 +1,11 @@
 //! Zones.
 ghost use Rattle.std.specs.Prelude.{◌≡◌, ◌≤◌, length, Contains, IfOk, IfErr};
 
-use crate::build::{checked_apex, kept_records, too_large};
+use crate::arrange::arranged;
+use crate::build::{last_fault, plan_of};
 use crate::count::count_in;
 use crate::fault::ZoneFault;
 use crate::find::set_of;
-use crate::sort::sorted_entries;
-use crate::start::{first_wildcard_cut, record_at};
 use dns_name::Name;
 use dns_wire::{Record, Records};
 use std::alloc::Global;
@@ -34,7 +33,7 @@ impl Zone {
     ghost use Rattle.naptr_data.specs.Zones.{rules_and_aliases_in};
     ghost use Rattle.zone_build.specs.Built.{IsBuilt};
     ghost use Rattle.zone_build.specs.Plain.{plain_of};
-    ghost use Rattle.zone_build.specs.Faults.{AreUnmixed, IsZoneFault};
+    ghost use Rattle.zone_build.specs.Faults.{IsZoneFault};
     ghost use Rattle.dns_wire.specs.declared.record.Record.{Record};
 
     /// The zone of these records: owners folded, repeats of owner, kind and RDATA counted once, and of each set the
@@ -48,15 +47,17 @@ impl Zone {
         ensures valid { IfOk result IsValid }
         ensures fault { IfErr result (IsZoneFault records) }
     {
-        let given = records.as_slice();
-        let entries = sorted_entries(alloc, given)?;
-        match checked_apex(given, entries.as_slice()) {
-            Ok(apex) => {
-                let kept = kept_records(alloc, entries.as_slice())?;
-                drop(entries);
-                Zone::of_kept(given, apex, kept)
-            }
-            Err(fault) => Err(fault),
+        let plan = match plan_of(alloc, records.as_slice()) {
+            Ok(plan) => plan,
+            Err(fault) => return Err(fault),
+        };
+        let kept = arranged(alloc, records.into_items(), plan.keeps.as_slice())?;
+        match last_fault(kept.as_slice(), plan.cut) {
+            Some(fault) => Err(fault),
+            None => Ok(Zone {
+                apex: plan.apex,
+                records: kept,
+            }),
         }
     }
 
@@ -73,33 +74,6 @@ impl Zone {
         ensures few { result ≤ length self.now.records }
     {
         count_in(self.records())
-    }
-
-    // The zone of what is kept of the records, where no set is too large and no wildcard is delegated.
-    fn of_kept(given: &[Record], apex: Name, kept: Vec<Record>) -> Result<Zone, ZoneFault>
-        requires plain { (one : Record) → Contains given.now one → IsPlain one }
-        requires unmixed { AreUnmixed given.now }
-        requires built { IsBuilt given.now (record { apex = apex; records = kept.items }) }
-        ensures built { IfOk result (IsBuilt given.now) }
-        ensures valid { IfOk result IsValid }
-        ensures fault { IfErr result (IsZoneFault given.now) }
-    {
-        if let Some(place) = too_large(kept.as_slice()) {
-            let one = record_at(kept.as_slice(), place);
-            return Err(ZoneFault::SetTooLarge {
-                name: one.owner,
-                kind: one.kind,
-            });
-        }
-        if let Some(place) = first_wildcard_cut(given) {
-            return Err(ZoneFault::WildcardCut {
-                name: record_at(given, place).owner.fold(),
-            });
-        }
-        Ok(Zone {
-            apex,
-            records: kept,
-        })
     }
 
     /// The apex, folded.

@@ -1,5 +1,4 @@
-use Rattle.std.proofs.Common.{sym, ap, ◌∙◌, arith}
-use Rattle.dns_wire.specs.declared.record.Record.{Record}
+use Rattle.std.proofs.Common.{sym, ◌∙◌, arith}
 use Rattle.zone_build.specs.Building.{Given}
 use Rattle.naptr_data.proofs.CutLemmas.{Contains-none}
 use Rattle.zone_build.proofs.ListLemmas.{least_more, turned_all, read_in}
@@ -8,13 +7,13 @@ use Rattle.zone_build.proofs.merge.least_ttl.Goals.{then-ttl-least, else-ttl-lea
 
 pub loop-entry-init : goal.loop-entry-init
 loop-entry-init c = record {
-  some = (c.index-set-0.result, read_in c.args.set.now 0 c.index-set-0.result c.requires c.index-set-0.is, ap (λ (r : Record). r.ttl) (sym c.record.ensures));
+  some = (c.index-set-0.result, read_in c.args.set.now 0 c.index-set-0.result c.requires c.index-set-0.is, sym c.ttl-least.ensures);
   least = λ one k. absurd (Contains-none one k);
 }
 
 pub loop-entry-preserved : goal.loop-entry-preserved
 loop-entry-preserved c =
-    let here = ap (λ (r : Record). r.ttl) c.record-in-loop-entry.ensures in
+    let here = c.ttl-ttl.ensures in
     elim c.if-ttl-least.branch [
       | then-ttl-least w ↦
           record {
