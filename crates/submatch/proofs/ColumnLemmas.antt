@@ -145,33 +145,33 @@ dead_column n P rows e never = subst (IsColumn n P) (sym e) (record {
   all = λ i j within h. absurd (never i j within h);
 })
 
--- from a place: where it stops, and the rows of that place and of later ones
-pub row_gone : (stops empties : Bool) (part rest : List Row) (from : ℕ) (first one here new : Row) → AreEnds (Leads part from) first →
+-- from a place: where it stops, and the rows of later places and of that one
+pub row_gone : (stops empties : Bool) (part rest : List Row) (from : ℕ) (first one far new : Row) → AreEnds (Leads part from) first →
     ((at : ℕ) → Has first at → from ≤ at) → AreEnds (λ j. IsTrue stops × (from ≡ j)) one →
     (next : Row) → AreEnds (λ j. Has first from × IsAllowed empties from from × Leads rest from j) next →
-    AddsPlaces (Has next) one here → AddsPlaces (LeadsFrom rest first (from + 1)) here new → AreEnds (StopsOrGoes stops empties part rest from) new
-row_gone stops empties part rest from first one here new read forward ends next at_once adds later = record {
-  each = λ j h. elim (later.each j h) [
-    | inr far ↦ inr (record {
-      at = far.at;
-      leads = read.each far.at far.there;
-      allowed = λ e. let after : from + 1 ≤ far.at = far.later in absurd (omega arith);
-      others = far.leads;
-    })
-    | inl near ↦ elim (adds.each j near) [
+    AddsPlaces (LeadsFrom rest first (from + 1)) one far → AddsPlaces (Has next) far new → AreEnds (StopsOrGoes stops empties part rest from) new
+row_gone stops empties part rest from first one far new read forward ends next at_once later adds = record {
+  each = λ j h. elim (adds.each j h) [
+    | inr empty ↦ let e = at_once.each j empty in inr (record { at = from; leads = read.each from e.0; allowed = e.1; others = e.2 })
+    | inl near ↦ elim (later.each j near) [
       | inl stop ↦ inl (ends.each j stop)
-      | inr empty ↦ let e = at_once.each j empty in inr (record { at = from; leads = read.each from e.0; allowed = e.1; others = e.2 })
+      | inr go ↦ inr (record {
+        at = go.at;
+        leads = read.each go.at go.there;
+        allowed = λ e. let after : from + 1 ≤ go.at = go.later in absurd (omega arith);
+        others = go.leads;
+      })
     ]
   ];
   all = λ j h. elim h [
-    | inl stop ↦ later.kept j (adds.kept j (ends.all j stop))
+    | inl stop ↦ adds.kept j (later.kept j (ends.all j stop))
     | inr t ↦ let there : Has first t.at = read.all t.at t.leads in elim (here_or_later from t.at (forward t.at there)) [
-      | inl same ↦ later.kept j (adds.added j (at_once.all j (
+      | inl same ↦ adds.added j (at_once.all j (
         subst (λ x. Has first x) same there,
         subst (λ x. IsAllowed empties from x) same t.allowed,
         subst (λ x. Leads rest x j) same t.others,
-      )))
-      | inr after ↦ later.added j (record { at = t.at; later = after; there = there; leads = t.others })
+      ))
+      | inr after ↦ adds.kept j (later.added j (record { at = t.at; later = after; there = there; leads = t.others }))
     ]
   ];
 }

@@ -4,7 +4,7 @@ use Rattle.std.proofs.lemmas.List.{get_or-set_same, get_or-set_other, length-set
 use Rattle.posix_ere.specs.Tree.{Tree, Trees, none, more}
 use Rattle.posix_ere.specs.Parts.{count_of, part}
 use Rattle.submatch.specs.Parses.{Parses, no_more, next, IsParse, ArePieces, IsBelow, AreIterations}
-use Rattle.submatch.specs.Rows.{Row, Has, AreEnds, Leads, IsColumn, AreForward, IsAllowed, IsThrough, StopsOrGoes}
+use Rattle.submatch.specs.Rows.{Row, Has, AreEnds, Leads, IsColumn, AreForward, IsAllowed, IsThrough, StopsOrGoes, IsClosedFrom}
 use Rattle.submatch.specs.Ends.{Reaches, RowReaches, parts_from}
 use Rattle.submatch.proofs.Ends.{IsWithin, parse_within}
 use Rattle.submatch.proofs.ColumnLemmas.{renamed_column, leads_at, leads_has, leads_inside}
@@ -221,6 +221,16 @@ module _ (fold : Bool) (w : List ℕ) (t : Tree) (m : ℕ) where
     others = (rest, loops (suc (max m 1)) (max m 1) (omega arith) (omega arith) e j rest h.1);
   })
 
+  -- the loop goes on after itself
+  loop_through : (i j l : ℕ) (ps : Parses) → AreIterations (IsParse fold w t) m None (max m 1) i j ps → Loop j l → Loop i l
+  loop_through i j l no_more h others = subst (λ x. Loop x l) (sym h.0) others
+  loop_through i j l (next e c a rest) h others = loop_go i l (record {
+    at = e;
+    first = (c, a, (h.0).holds);
+    allowed = λ same. let more : suc (max m 1) ≤ max m 1 = (h.0).advances same in absurd (omega arith);
+    others = loop_through e j l rest (loops (suc (max m 1)) (max m 1) (omega arith) (omega arith) e j rest h.1) others;
+  })
+
   -- the rows from place k on are those of the loop
   pub record IsLoopedFrom (k : ℕ) (rows : List Row) : Type 0 where
     pub long : length rows ≡ length w + 1
@@ -292,6 +302,20 @@ module _ (fold : Bool) (w : List ℕ) (t : Tree) (m : ℕ) where
               others = later.all go.at j (past go.at up go.allowed) (e.inside inside) go.others;
             })
       ])
+
+  pub looped_closed : (k : ℕ) (rows : List Row) → IsLoopedFrom k rows → IsClosedFrom k rows
+  looped_closed k rows looped i j l up after first second =
+      let inside : i < length rows = leads_inside rows i j first in
+      let long : length rows ≡ length w + 1 = looped.long in
+      let go = looped.each i j up first in
+      looped.all i l up (omega arith) (loop_through i j l go.0 go.1 (looped.each j l after second))
+
+  pub loop_closed : (rows : List Row) → IsColumn (length w) Loop rows → IsClosedFrom 0 rows
+  loop_closed rows column i j l up after first second =
+      let inside : i < length rows = leads_inside rows i j first in
+      let short : length rows ≤ length w + 1 = column.short in
+      let go = column.each i j first in
+      column.all i l (omega arith) (loop_through i j l go.0 go.1 (column.each j l second))
 
   pub looped_none : (rows : List Row) → length rows ≡ length w + 1 → (k : ℕ) → k ≡ length w + 1 → IsLoopedFrom k rows
   looped_none rows long k e = record {

@@ -8,7 +8,7 @@ use Rattle.submatch.specs.Rows.{Row, Has, Leads, LeadsFrom, LeadsFromBit, AddsPl
 shifted : (word a i : ℕ) → bit_at (word / 2 ^ a) i ≡ bit_at word (a + i)
 shifted word a i = ap (λ x. x % 2) (shr-shr word a i)
 
-compare : (k n : ℕ) → (k < n) ⊎ (n ≤ k)
+pub compare : (k n : ℕ) → (k < n) ⊎ (n ≤ k)
 compare k n = grind arith
 
 -- of what is left of a word, no bit is set
@@ -217,15 +217,16 @@ places_next rows places from at word old row new up bits joins gone = record {
   ];
 }
 
-pub places_all : (rows : List Row) (places : Row) (from at : ℕ) (old row : Row) → 256 ≤ at → AddsPlaces (LeadsBetween rows places from at) old row →
+pub places_all : (rows : List Row) (places : Row) (from at end : ℕ) (old row : Row) → ((i j : ℕ) → i < 256 → Leads rows i j → i < end) → end ≤ at →
+    AddsPlaces (LeadsBetween rows places from at) old row →
     AddsPlaces (LeadsFrom rows places from) old row
 unfolding Has
-places_all rows places from at old row past gone = record {
+places_all rows places from at end old row rows_end past gone = record {
   each = λ j h. elim (gone.each j h) [
     | inl first ↦ inl first
     | inr l ↦ inr (record { at = l.at; later = l.later; there = l.there; leads = l.leads })
   ];
   kept = gone.kept;
-  added = λ j l. let less : l.at < 256 = l.there.0 in
+  added = λ j l. let less : l.at < end = rows_end l.at j l.there.0 l.leads in
       gone.added j (record { at = l.at; later = l.later; below = omega arith; there = l.there; leads = l.leads });
 }

@@ -21,3 +21,4 @@ pub mod Rebuilding
 pub mod Spending
 pub mod Finding
 pub mod Joining
+pub mod Closed

@@ -8,10 +8,10 @@ use Rattle.posix_ere.specs.Nodes.{tree_at, node_of}
 use Rattle.posix_ere.specs.declared.node.Node.TheVariants.{Alt, Branch, Group, Rep}
 use Rattle.submatch.specs.Parses.{IsParse, IsBelow}
 use Rattle.submatch.specs.Ends.{Reaches}
-use Rattle.submatch.specs.Rows.{Row, IsColumn, AreForward}
+use Rattle.submatch.specs.Rows.{Row, IsColumn, AreForward, IsClosedFrom}
 use Rattle.submatch.specs.Table.{TableValue, PartValue, column_at, part_at, HasColumn, AreInside, HasRest, AreRests, AreParts, Grows, IsMade, PassesOn, AddsJoined, LeadsSome, AreAlive, last_count, IsUpTo}
 use Rattle.submatch.proofs.ColumnLemmas.{leads_inside, renamed_column, dead_column}
-use Rattle.submatch.proofs.EndsOfRows.{Pieces, Iterations, forward_column, dead_pieces, no_pieces, pieces_column, iterations_column, last_piece, loops}
+use Rattle.submatch.proofs.EndsOfRows.{Pieces, Iterations, forward_column, dead_pieces, no_pieces, pieces_column, iterations_column, last_piece, loops, loop_closed}
 use Rattle.submatch.proofs.EndsOfNodes.{is_alt, is_branch, is_group, is_rep, column_of_group, column_of_single, column_of_alt, column_of_branch, column_of_rep, has_part_of_group}
 use Rattle.submatch.proofs.Growing.{grows_same, column_added, new_column, kept_inside, kept_column, AreBuilt, built_next}
 
@@ -253,6 +253,13 @@ module _ (fold : Bool) (w : List ℕ) (trees : List Tree) where
   rep_begun old now t m o own column number columns exact =
       subst (λ c. HasColumn (length w) now c (Iterations fold w t m o (last_count m o))) (sym number)
       (new_column (length w) (Iterations fold w t m o (last_count m o)) old now column columns exact)
+
+  -- before the first iteration that there may be any number of, the column that was built is closed
+  pub rep_closed : (old now : TableValue) (t : Tree) (m : ℕ) (o : Option ℕ) (top k own : ℕ) (rests : List ℕ) → top ≡ last_count m o → k ≡ top → o ≡ None →
+      AreBuilt (length w) (Iterations fold w t m o) old now top k own rests → IsClosedFrom 0 (column_at now own)
+  rep_closed old now t m (Some n) top k own rests e last none built = absurd (cc none)
+  rep_closed old now t m None top k own rests e last none built = loop_closed fold w t m (column_at now own)
+      (subst (λ x. IsColumn (length w) (Iterations fold w t m None x) (column_at now own)) (last ∙ e) built.here.exact)
 
   pub iterations_next : (old now later : TableValue) (inside : List ℕ) (ts : Trees) (m : ℕ) (o : Option ℕ) (k x own number : ℕ) (stops empties : Bool) (rests more : List ℕ) →
       AreParts fold w trees old → AreInside trees old (length old.parts) inside ts → 0 < count_of ts → k + 1 ≤ last_count m o → x ≡ slice_index inside 0 →

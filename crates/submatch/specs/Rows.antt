@@ -38,6 +38,14 @@ pub record LeadsFromBit (rows : List Row) (word start j : ℕ) : Type 0 where
   pub there : bit_at word bit ≡ 1
   pub leads : Leads rows (start + bit) j
 
+-- from place k on, the rows are closed: a row has all places to which the rows of its own places lead
+abbrev pub IsClosedFrom : ℕ → List Row → Type 0
+IsClosedFrom k rows = (i j l : ℕ) → k ≤ i → k ≤ j → Leads rows i j → Leads rows j l → Leads rows i l
+
+-- the row has all places to which the rows of its own places lead, those from place k on
+abbrev pub IsClosedOver : ℕ → List Row → Row → Type 0
+IsClosedOver k rows row = (j l : ℕ) → k ≤ j → Has row j → Leads rows j l → Has row l
+
 -- The rows are those of a relation between the places of a text of n bytes: the row at i has the places to which i is related,
 -- and no others. A column with no rows is that of a relation that never holds.
 pub record IsColumn (n : ℕ) (P : ℕ → ℕ → Type 0) (rows : List Row) : Type 0 where

@@ -2,7 +2,7 @@
 ghost use Rattle.std.specs.Prelude.{◌≡◌, ℕ, ◌+◌, ◌<◌, ◌≤◌, ◌↔◌, ◌++◌, ◌∷◌, [], IsTrue, length, OnOk, IfOk};
 ghost use Rattle.std.specs.Int.{bit_at};
 ghost use Rattle.std.specs.List.{slice_set};
-ghost use Rattle.submatch.specs.Rows.{Has, Leads, LeadsFrom, LeadsFromBit, AreEnds, AddsPlaces};
+ghost use Rattle.submatch.specs.Rows.{Has, Leads, LeadsFrom, LeadsFromBit, AreEnds, AddsPlaces, IsClosedFrom, IsClosedOver};
 
 use super::row::Row;
 use enum_base::{MemoryFault, Steps};
@@ -100,6 +100,7 @@ impl<A: Allocator> Column<A> {
     fn join_row_where<L: Ledger>(&self, holds: bool, from: u16, row: &mut Row, steps: &mut Steps<L>)
         ensures row { AddsPlaces (λ j. IsTrue holds × Leads self.now from j) row.old row.new }
         ensures steps { steps.new ≤ steps.old + 1 }
+        ensures idle { (IsTrue holds → ⊥) → steps.new ≡ steps.old }
         ensures up { steps.old ≤ steps.new }
     {
         if !holds {
@@ -124,23 +125,57 @@ impl<A: Allocator> Column<A> {
         }
     }
 
-    /// Adds to a row those of the places that another row has, from this place on: at most one step for each of these.
+    /// The first place without a row, of those that a row can have.
+    fn end_of_rows(&self) -> u16
+        ensures within { result ≤ 256 }
+        ensures past { (i j : ℕ) → i < 256 → Leads self.now i j → i < result }
+    {
+        self.rows.len().min(256) as u16
+    }
+
+    /// Adds to a row those of the places that another row has, from this place on: at most one step for each of these. Where
+    /// the rows and the row are closed, those of places that the row already has are passed over.
     pub(crate) fn join_rows<L: Ledger>(
         &self,
+        closed: bool,
         places: &Row,
         from: u16,
         row: &mut Row,
         steps: &mut Steps<L>,
     )
-        requires { from ≤ 256 }
+        requires from { from ≤ 256 }
+        requires rows { IsTrue closed → IsClosedFrom from self.now }
+        requires row { IsTrue closed → IsClosedOver from self.now row.old }
         ensures row { AddsPlaces (LeadsFrom self.now places.now from) row.old row.new }
         ensures steps { (n : ℕ) → from ≤ n → ((at : ℕ) → Has places.now at → at < n) → steps.new + from ≤ steps.old + n }
         ensures up { steps.old ≤ steps.new }
     {
+        if closed {
+            return self.join_new_rows(places, from, row, steps);
+        }
+        let end = self.end_of_rows();
         let mut at = from;
-        while at < 256 {
+        while at < end {
             self.join_word(places.word_from(at), at, row, steps);
             at = (at / 64 + 1) * 64;
+        }
+    }
+
+    /// Adds the rows of those of these places that the row does not have yet, and of few others.
+    fn join_new_rows<L: Ledger>(&self, places: &Row, from: u16, row: &mut Row, steps: &mut Steps<L>)
+        requires from { from ≤ 256 }
+        requires rows { IsClosedFrom from self.now }
+        requires row { IsClosedOver from self.now row.old }
+        ensures row { AddsPlaces (LeadsFrom self.now places.now from) row.old row.new }
+        ensures steps { (n : ℕ) → from ≤ n → ((at : ℕ) → Has places.now at → at < n) → steps.new + from ≤ steps.old + n }
+        ensures up { steps.old ≤ steps.new }
+    {
+        let end = self.end_of_rows();
+        let mut at = from;
+        while at < end {
+            let next = places.next_new(row, at);
+            self.join_row_where(places.has(next), next, row, steps);
+            at = next + 1;
         }
     }
 }

@@ -4,7 +4,7 @@ ghost use Rattle.posix_ere.specs.Parts.{part};
 ghost use Rattle.posix_ere.specs.Nodes.{tree_at};
 ghost use Rattle.submatch.specs.Parses.{IsParse, AreIterations};
 ghost use Rattle.submatch.specs.Ends.{Reaches, RowReaches};
-ghost use Rattle.submatch.specs.Rows.{Has, Leads, AreEnds, IsColumn, AreForward, IsAllowed, StopsOrGoes};
+ghost use Rattle.submatch.specs.Rows.{Has, Leads, AreEnds, IsColumn, AreForward, IsAllowed, StopsOrGoes, IsClosedFrom};
 ghost use Rattle.submatch.specs.Table.{LeadsSome, square, part_at};
 
 use super::column::Column;
@@ -14,6 +14,17 @@ use super::table::Table;
 use enum_base::{MemoryFault, Steps};
 use std::alloc::Allocator;
 use std::sync::ledger::Ledger;
+
+/// How two columns are joined.
+#[derive(Clone, Copy)]
+pub(crate) struct Joint {
+    /// Whether a way may stop at the place that it begins at.
+    pub(crate) stops: bool,
+    /// Whether the first column may lead to that place.
+    pub(crate) empties: bool,
+    /// Whether the rows of the second column are closed.
+    pub(crate) closed: bool,
+}
 
 impl<A: Allocator + Copy> Search<'_, '_, A> {
     // How many places the text has.
@@ -45,27 +56,27 @@ impl<A: Allocator + Copy> Search<'_, '_, A> {
         }
     }
 
-    // From a place: that place itself if it `stops`, and the places to which `rest` leads from those to which `part` leads.
+    // From a place: that place itself if the joint `stops`, and the places to which `rest` leads from those to which `part` leads.
     pub(crate) fn joined_row<L: Ledger>(
         &self,
         part: &Column<A>,
         rest: &Column<A>,
-        stops: bool,
-        empties: bool,
+        joint: Joint,
         from: u16,
         steps: &mut Steps<L>,
     ) -> Row
         requires forward { AreForward (length self.now.text.now) part.now }
         requires within { from ≤ length self.now.text.now }
-        ensures row { AreEnds (StopsOrGoes stops empties part.now rest.now from) result }
+        requires closed { IsTrue joint.closed → IsClosedFrom (from + 1) rest.now }
+        ensures row { AreEnds (StopsOrGoes joint.stops joint.empties part.now rest.now from) result }
         ensures most { steps.new ≤ steps.old + 2 * (length self.now.text.now + 1) }
         ensures idle { length part.now ≡ 0 → steps.new ≡ steps.old }
     {
-        let mut row = Row::one(stops, from);
+        let mut row = Row::one(joint.stops, from);
         let first = part.row(from, steps);
-        let here = self.row_after(&first, rest, empties, from, from, steps);
+        let here = self.row_after(&first, rest, joint.empties, from, from, steps);
+        rest.join_rows(joint.closed, &first, from + 1, &mut row, steps);
         row.join(&here);
-        rest.join_rows(&first, from + 1, &mut row, steps);
         row
     }
 
@@ -74,18 +85,19 @@ impl<A: Allocator + Copy> Search<'_, '_, A> {
         &self,
         part: &Column<A>,
         rest: &Column<A>,
-        stops: bool,
-        empties: bool,
+        joint: Joint,
         steps: &mut Steps<L>,
     ) -> Result<Column<A>, MemoryFault>
         requires forward { AreForward (length self.now.text.now) part.now }
-        ensures column { IfOk result (IsColumn (length self.now.text.now) (StopsOrGoes stops empties part.now rest.now)) }
+        requires closed { IsTrue joint.closed → IsClosedFrom 0 rest.now }
+        ensures column { IfOk result (IsColumn (length self.now.text.now) (StopsOrGoes joint.stops joint.empties part.now rest.now)) }
         ensures most { steps.new ≤ steps.old + 2 * square self.now.text.now }
         ensures idle { length part.now ≡ 0 → steps.new ≡ steps.old }
     {
         let mut column = Column::with_room(self.alloc, self.places())?;
         for from in 0..self.places() {
-            column.push(self.joined_row(part, rest, stops, empties, from, steps))?;
+            let row = self.joined_row(part, rest, joint, from, steps);
+            column.push(row)?;
         }
         Ok(column)
     }
@@ -117,9 +129,14 @@ impl<A: Allocator + Copy> Search<'_, '_, A> {
         ensures most { steps.new ≤ steps.old + 2 * square self.now.text.now }
         ensures idle { length part.now ≡ 0 → steps.new ≡ steps.old }
     {
+        let joint = Joint {
+            stops: true,
+            empties: false,
+            closed: true,
+        };
         let mut column = self.stay(false)?;
         for from in (0..self.places()).rev() {
-            let row = self.joined_row(part, &column, true, false, from, steps);
+            let row = self.joined_row(part, &column, joint, from, steps);
             column.set(from, row);
         }
         Ok(column)

@@ -1,14 +1,15 @@
 //! The part of each kind of node, made over the parts inside it.
-ghost use Rattle.std.specs.Prelude.{◌≡◌, ℕ, zero, ◌+◌, ◌*◌, ◌-◌, ◌<◌, ◌≤◌, ◌↔◌, length, slice_index, IsTrue, IfOk};
+ghost use Rattle.std.specs.Prelude.{◌≡◌, ℕ, zero, ◌+◌, ◌*◌, ◌-◌, ◌<◌, ◌≤◌, ◌↔◌, length, slice_index, IsTrue, None, IfOk};
 ghost use Rattle.posix_ere.specs.Parts.{parts_of, count_of};
 ghost use Rattle.posix_ere.specs.Nodes.{tree_at, node_of};
 ghost use Rattle.posix_ere.specs.declared.node.Node.TheVariants as n;
 ghost use Rattle.submatch.specs.Parses.{IsParse, AreIterations};
-ghost use Rattle.submatch.specs.Rows.{IsColumn, AreForward};
+ghost use Rattle.submatch.specs.Rows.{IsColumn, AreForward, IsClosedFrom};
 ghost use Rattle.submatch.specs.Ends.{Reaches, RowReaches, IsLeaf};
 ghost use Rattle.submatch.specs.Table.{AreParts, AreAlive, IsMade, AddsJoined, PassesOn, square, column_at, part_at, last_count as last_of, AreInsideOf, KeepsToWeight, KeepsToShare};
 
 use super::column::Column;
+use super::joined::Joint;
 use super::search::Search;
 use super::table::{Part, Table};
 use enum_base::{MemoryFault, Steps};
@@ -174,8 +175,13 @@ impl<A: Allocator + Copy> Search<'_, '_, A> {
         let mut own = table.part(inside[last]).own();
         let mut rests = Vec::new(self.alloc);
         rests.push(own)?;
+        let joint = Joint {
+            stops: false,
+            empties: true,
+            closed: false,
+        };
         for k in (0..last).rev() {
-            own = self.add_joined(inside[k], own, false, true, table, &mut rests, steps)?;
+            own = self.add_joined(inside[k], own, joint, table, &mut rests, steps)?;
         }
         Ok(Part::new(at, own, rests, inside))
     }
@@ -185,8 +191,7 @@ impl<A: Allocator + Copy> Search<'_, '_, A> {
         &self,
         part: usize,
         rest: usize,
-        stops: bool,
-        empties: bool,
+        joint: Joint,
         table: &mut Table<A>,
         rests: &mut Vec<usize, A>,
         steps: &mut Steps<L>,
@@ -195,12 +200,13 @@ impl<A: Allocator + Copy> Search<'_, '_, A> {
         requires own { (part_at table.old part).own < length table.old.columns }
         requires rest { rest < length table.old.columns }
         requires forward { AreForward (length self.now.text.now) (column_at table.old (part_at table.old part).own) }
-        ensures added { IfOk result (AddsJoined (length self.now.text.now) stops empties table.old table.new part rest
+        requires closed { IsTrue joint.closed → IsClosedFrom 0 (column_at table.old rest) }
+        ensures added { IfOk result (AddsJoined (length self.now.text.now) joint.stops joint.empties table.old table.new part rest
             rests.old.items rests.new.items) }
         ensures most { steps.new ≤ steps.old + 2 * square self.now.text.now }
         ensures idle { length (column_at table.old (part_at table.old part).own) ≡ 0 → steps.new ≡ steps.old }
     {
-        let column = self.joined(table.own(part), table.column(rest), stops, empties, steps)?;
+        let column = self.joined(table.own(part), table.column(rest), joint, steps)?;
         let number = table.add_column(column)?;
         rests.push(number)?;
         Ok(number)
@@ -248,15 +254,12 @@ impl<A: Allocator + Copy> Search<'_, '_, A> {
         let mut rests = Vec::new(self.alloc);
         rests.push(own)?;
         for k in (0..last).rev() {
-            own = self.add_joined(
-                part,
-                own,
-                least <= k,
-                k < least.max(1),
-                table,
-                &mut rests,
-                steps,
-            )?;
+            let joint = Joint {
+                stops: least <= k,
+                empties: k < least.max(1),
+                closed: is_before_loop(most, k, last),
+            };
+            own = self.add_joined(part, own, joint, table, &mut rests, steps)?;
         }
         Ok(Part::new(at, own, rests, inside))
     }
@@ -282,6 +285,17 @@ impl<A: Allocator + Copy> Search<'_, '_, A> {
             Some(most) => self.stay(least <= most),
             None => self.looped(table.part(part).at(), least, table.own(part), steps),
         }
+    }
+}
+
+// Whether only this iteration comes before those of which there may be any number.
+fn is_before_loop(most: Option<u32>, k: u32, last: u32) -> bool
+    requires { k < last }
+    ensures { IsTrue result → (most ≡ None) × (k + 1 ≡ last) }
+{
+    match most {
+        Some(_) => false,
+        None => k + 1 == last,
     }
 }
 

@@ -1,5 +1,5 @@
 //! Rows: places of a text as bits.
-ghost use Rattle.std.specs.Prelude.{◌≡◌, ℕ, ◌+◌, ◌-◌, ◌%◌, ◌<◌, ◌↔◌, IsTrue};
+ghost use Rattle.std.specs.Prelude.{◌≡◌, ℕ, ◌+◌, ◌-◌, ◌%◌, ◌<◌, ◌≤◌, ◌↔◌, IsTrue};
 ghost use Rattle.std.specs.Int.{bit_at};
 ghost use Rattle.submatch.specs.Rows.{Has, AddsPlaces, AreEnds};
 
@@ -58,6 +58,18 @@ impl Row {
         ensures { (bit : ℕ) → (bit_at result bit ≡ 1) ↔ ((bit < 64 - place % 64) × Has self.now (place + bit)) }
     {
         bits_from(self.words[usize::from(place / 64)], place % 64)
+    }
+
+    /// The next place, from this one on, that it has and another row does not, or the last place of the word before that.
+    pub(crate) fn next_new(&self, other: &Row, place: u16) -> u16
+        requires { place < 256 }
+        ensures later { place ≤ result }
+        ensures within { result < 256 }
+        ensures passed { (k : ℕ) → place ≤ k → k < result → Has self.now k → Has other.now k }
+    {
+        let most = u32::from(63 - place % 64);
+        let new = self.word_from(place) & !other.word_from(place);
+        place + new.trailing_zeros().min(most) as u16
     }
 
     /// Adds the place.

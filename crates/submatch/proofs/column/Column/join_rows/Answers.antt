@@ -5,7 +5,7 @@ use Rattle.submatch.proofs.column.Column.join_rows.Goals as goal
 pub loop-at-init : goal.loop-at-init
 loop-at-init g c = record {
   later = omega arith;
-  within = c.requires;
+  within = c.requires.from;
   adds = places_none c.args.self.now c.args.places.now c.args.from c.args.row.now;
   looked = omega arith;
   most = λ n after bound. omega arith;
@@ -14,7 +14,7 @@ loop-at-init g c = record {
 
 pub loop-at-preserved : goal.loop-at-preserved
 loop-at-preserved g c =
-    let inside : c.loop-at.at < 256 = c.loop-at-test.true in
+    let inside : c.loop-at.at < 256 = omega (arith, c.loop-at-test.true, c.end_of_rows-end.ensures.within) in
     let word : c.join_word.new.steps ≤ c.loop-at.steps + (64 - c.loop-at.at % 64) =
     c.join_word.ensures.steps (64 - c.loop-at.at % 64) (λ bit one. ((c.word_from.ensures bit).0 one).0) in
     let so_far : c.loop-at.steps + c.args.from ≤ c.args.steps.now + c.loop-at.at = c.loop-at.invariant.looked in
@@ -33,5 +33,9 @@ loop-at-preserved g c =
     }
 
 pub returns-clause-row : goal.returns-clause-row
-returns-clause-row g c = places_all c.args.self.now c.args.places.now c.args.from c.loop-at.at c.args.row.now c.loop-at.row (omega (arith, c.loop-at-test.false))
+returns-clause-row g c = places_all c.args.self.now c.args.places.now c.args.from c.loop-at.at c.end_of_rows-end.result c.args.row.now c.loop-at.row
+    c.end_of_rows-end.ensures.past (omega (arith, c.loop-at-test.false))
     c.loop-at.invariant.adds
+
+pub join_new_rows-requires-clause-rows : goal.join_new_rows-requires-clause-rows
+join_new_rows-requires-clause-rows g c = c.requires.rows c.if-closed.true

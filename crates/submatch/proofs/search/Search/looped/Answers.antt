@@ -1,6 +1,6 @@
 use Rattle.std.proofs.Common.{◌≡◌, ◌+◌, ◌-◌, ◌*◌, ◌≤◌, ◌∙◌, length, subst, sym, refl, arith}
 use Rattle.posix_ere.specs.Nodes.{tree_at}
-use Rattle.submatch.proofs.EndsOfRows.{IsLoopedFrom, forward_column, looped_none, looped_next, looped_all}
+use Rattle.submatch.proofs.EndsOfRows.{IsLoopedFrom, forward_column, looped_none, looped_next, looped_all, looped_closed}
 use Rattle.submatch.proofs.Counts.{row_less, rows_within}
 use Rattle.submatch.proofs.search.Search.looped.Goals as goal
 
@@ -18,6 +18,13 @@ loop-from-init g c =
 pub joined_row-row-requires-clause-forward : goal.joined_row-row-requires-clause-forward
 joined_row-row-requires-clause-forward g c =
     forward_column c.args.self.now.fold c.args.self.now.text.now (tree_at c.args.self.now.ere.now c.args.child) c.args.part.now c.requires.part
+
+pub joined_row-row-requires-clause-closed : goal.joined_row-row-requires-clause-closed
+joined_row-row-requires-clause-closed g c = λ closed.
+    let tree = tree_at c.args.self.now.ere.now c.args.child in
+    let same : c.loop-from.from ≡ c.loop-from.from - 1 + 1 = omega arith in
+    looped_closed c.args.self.now.fold c.args.self.now.text.now tree c.args.least (c.loop-from.from - 1 + 1) c.loop-from.column
+    (subst (λ x. IsLoopedFrom c.args.self.now.fold c.args.self.now.text.now tree c.args.least x c.loop-from.column) same c.loop-from.invariant.0)
 
 pub set-requires : goal.set-requires
 set-requires g c = let long : length c.loop-from.column ≡ length c.args.self.now.text.now + 1 = (c.loop-from.invariant.0).long in let up : c.loop-from.from ≤ c.places-from.result = c.loop-from.auto.from in omega arith

@@ -8,7 +8,7 @@ use Rattle.submatch.specs.Table.{part_at, column_at, last_count, square}
 use Rattle.submatch.proofs.Counts.{row_less, rows_done}
 use Rattle.submatch.proofs.EndsOfRows.{Iterations}
 use Rattle.submatch.proofs.Growing.{AreBuilt, column_added, built_first}
-use Rattle.submatch.proofs.Making.{index_is, one_inside, IsThere, inside_now, inside_same, there_forward, rep_begun, iterations_next, built_rep}
+use Rattle.submatch.proofs.Making.{index_is, one_inside, IsThere, inside_now, inside_same, there_forward, rep_begun, iterations_next, built_rep, rep_closed}
 use Rattle.submatch.proofs.search.Search.made_rep.Goals as goal
 
 pub loop-k-init : goal.loop-k-init
@@ -53,6 +53,14 @@ add_joined-requires-clause-part g c =
     inside_now c.args.self.now.fold c.args.self.now.text.now c.args.self.now.ere.now c.args.table.now c.loop-k.table c.args.inside.items (parts_of t) 0
     c.index-part.result.now c.requires.parts c.requires.inside c.loop-k.invariant.0.grows (omega arith) is in
     there.number
+
+pub add_joined-requires-clause-closed : goal.add_joined-requires-clause-closed
+add_joined-requires-clause-closed g c = λ closed.
+    let before = c.is_before_loop.ensures closed in
+    let same : c.loop-k.k ≡ c.last_count-last.result = omega (arith, before.1) in
+    rep_closed c.args.self.now.fold c.args.self.now.text.now c.args.self.now.ere.now c.args.table.now c.loop-k.table
+    (part (parts_of (tree_at c.args.self.now.ere.now c.args.at)) 0) c.args.least c.args.most c.last_count-last.result c.loop-k.k c.loop-k.own c.loop-k.rests.items
+    c.last_count-last.ensures same before.0 c.loop-k.invariant.0
 
 pub add_joined-requires-clause-own : goal.add_joined-requires-clause-own
 add_joined-requires-clause-own g c =
