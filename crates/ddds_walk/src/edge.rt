@@ -2,9 +2,8 @@
 
 use crate::report::Outcome;
 use dns_name::Name;
-use enum_base::{List, MemoryFault};
+use enum_base::List;
 use naptr_data::Naptr;
-use std::alloc::Global;
 
 // One edge out of a domain (RFC 3402, section 3).
 #[derive(Drop)]

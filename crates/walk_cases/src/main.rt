@@ -26,7 +26,7 @@ mod listed;
 mod print;
 mod script;
 
-use enum_base::{Bytes, MemoryFault};
+use enum_base::Bytes;
 use script::Script;
 use std::alloc::{AllocError, Global};
 use std::io;

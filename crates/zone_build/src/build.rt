@@ -3,7 +3,7 @@ ghost use Rattle.std.specs.Prelude.{◌≡◌, ◌<◌, length, Contains, IfOk, 
 ghost use Rattle.dns_wire.specs.declared.record.Record.{Record};
 ghost use Rattle.zone_build.specs.Zone.{IsCanonical, IsPlain};
 ghost use Rattle.zone_build.specs.Faults.{AreUnmixed, IsZoneFault};
-ghost use Rattle.zone_build.specs.Building.{AreGivens, IsOrdered, IsStable, IsFirstLarge, IsApex, IsEntryApex, IsStartFault, IsKeptList, IsFirstCut, IsPlan, IsLastFault};
+ghost use Rattle.zone_build.specs.Building.{AreGivens, IsOrdered, IsFirstLarge, IsApex, IsEntryApex, IsStartFault, IsFirstCut, IsPlan, IsLastFault};
 
 use crate::clash::first_mixed;
 use crate::entry::Entry;

@@ -1,6 +1,5 @@
 //! What an entry means.
 ghost use Rattle.std.specs.Prelude.{◌≡◌, ◌≤◌, ◌+◌, drop, option_and_then, IsTrue, IfOk};
-ghost use Rattle.dns_wire.specs.Kinds.{is_whole};
 ghost use Rattle.std.specs.Option.{ok_or};
 ghost use Rattle.zone_token.specs.Bytes.{dollar};
 ghost use Rattle.zone_token.specs.Fields.{bare_at};

@@ -12,7 +12,6 @@ ghost use Rattle.zone_text.specs.Reading.{run, unread};
 ghost use Rattle.zone_token.specs.declared.spot.Spot.{Spot as Here};
 
 use crate::fault::TextFault;
-use crate::meaning::Standing;
 use crate::progress::{MOST_BYTES, Progress};
 use crate::scan::read_ended;
 use dns_name::Name;
