@@ -10,7 +10,7 @@ use Rattle.enum_base.proofs.StageLaws.{IsTotal, IsTotal-is, IsTotal-then}
 use Rattle.hex.specs.Hex.{IsBytes, decode_of}
 use Rattle.hex.specs.declared.error.FromHexError.{FromHexError}
 use Rattle.enum_top.specs.Inputs.{Inputs, fitting_input}
-use Rattle.enum_top.specs.Showing.{Digits, Hexes, Messages, Shows, digits_in, shown_as}
+use Rattle.enum_top.specs.Showing.{Digits, Messages, Shows, digits_in, shown_as}
 use Rattle.enum_top.specs.declared.cause.Cause.TheVariants as cause
 use Rattle.enum_top.proofs.HexLemmas.{hex_decodes, hex_of_decoded}
 

@@ -1,4 +1,4 @@
-use Rattle.std.proofs.Common.{◌∷◌, sym, ap}
+use Rattle.std.proofs.Common.{◌∷◌, ap}
 use Rattle.walk_cases.specs.Names.{names_of}
 use Rattle.walk_cases.specs.State.{Cached}
 use Rattle.walk_cases.proofs.KeptLemmas.{kept_after, keeps}
