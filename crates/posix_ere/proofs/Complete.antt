@@ -9,7 +9,7 @@ use Rattle.posix_ere.specs.Parts.{count_of, groups, groups_in}
 use Rattle.posix_ere.specs.Ascii.{is_ordinary, is_special}
 use Rattle.posix_ere.specs.Grammar.{IsOneByte, IsAnchor, IsExpression, AreFurtherBranches, IsBranch, ArePieces, IsRepeated}
 use Rattle.posix_ere.specs.Cells.{gather, made, put, tree_of}
-use Rattle.posix_ere.specs.Machine.{State, step, run, after, mode_step, plain_step, escape_step, with_leaf, with_repeat, with_branch, with_group, ended, no_marks, sign_of, at_mode, finish}
+use Rattle.posix_ere.specs.Machine.{State, step, run, mode_step, plain_step, with_leaf, with_repeat, with_branch, with_group, ended, no_marks, sign_of, at_mode}
 use Rattle.posix_ere.specs.Machine as machine
 use Rattle.posix_ere.specs.declared.node.Node.{Node}
 use Rattle.posix_ere.specs.declared.node.Node.TheVariants as n

@@ -14,7 +14,7 @@ use Rattle.posix_ere.specs.Grammar.{IsOneByte, IsAnchor, Reads}
 use Rattle.posix_ere.specs.Cells.{put, made, listed_by}
 use Rattle.posix_ere.specs.IntervalMachine.{count_step}
 use Rattle.posix_ere.specs.BracketMachine.{list_step}
-use Rattle.posix_ere.specs.Machine.{State, step, run, after, finish, finish_at, finish_plain, mode_step, plain_step, escape_step, interval_step, bracket_step, closed, if_repeatable, with_leaf, with_repeat, with_branch, with_group, ended, no_marks, sign_of, at_mode, top_of}
+use Rattle.posix_ere.specs.Machine.{State, step, run, after, finish, finish_at, finish_plain, mode_step, plain_step, interval_step, bracket_step, closed, if_repeatable, with_leaf, with_repeat, with_branch, with_group, ended, no_marks, sign_of, at_mode, top_of}
 use Rattle.posix_ere.specs.Machine as machine
 use Rattle.posix_ere.specs.declared.node.Node.{Node}
 use Rattle.posix_ere.specs.declared.node.Node.TheVariants as n

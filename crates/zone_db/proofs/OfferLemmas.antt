@@ -7,7 +7,7 @@ use Rattle.std.proofs.lemmas.List.Sums.{sum_by-append}
 use Rattle.dns_wire.specs.Rdata.{rdata_of}
 use Rattle.std.proofs.lemmas.List.Elements.{Contains-append_left, Contains-append_right, Contains-append_cases}
 use Rattle.naptr_data.proofs.CutLemmas.{Contains-head, Contains-behind, Contains-none, Contains-middle, head_or_behind}
-use Rattle.naptr_data.specs.Zones.{Labels, Item, Owned, Exists, IsSource, StandsAt, IsFirstAlias, AreRules, IsOffer, IsDelegated, rule, alias, delegation, other}
+use Rattle.naptr_data.specs.Zones.{Labels, Item, Owned, Exists, StandsAt, IsFirstAlias, AreRules, IsOffer, IsDelegated, rule, alias, delegation}
 use Rattle.naptr_data.specs.Zones as plain
 use Rattle.naptr_data.specs.declared.rule.Naptr.{Naptr}
 use Rattle.naptr_data.specs.declared.offer.Offer.{Offer}
