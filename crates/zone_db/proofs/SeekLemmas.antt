@@ -175,10 +175,10 @@ cut_here records apex name above (Some cut) is not none (c, i) = (
   ],
 )
 
-pub ns_first : (records set : List Record) (name : Labels) (one : Record) (rest : List Record) → IsSet records name ns set → set ≡ one ∷ rest → Contains records one × IsIn name ns one
-ns_first records set name one rest s is =
-    let t = subst (IsSet records name ns) is s in
-    (subst (λ l. Contains l one) (sym t.parts) (Contains-append_right t.before ((one ∷ rest) ++ t.behind) one (Contains-head one (rest ++ t.behind))), t.each.0)
+pub ns_first : (records set : List Record) (name : Labels) (d : Record) → IsSet records name ns set → 0 < length set → Contains records (get_or set 0 d) × IsIn name ns (get_or set 0 d)
+ns_first records [] name d s some = absurd (omega arith)
+ns_first records (one ∷ rest) name d s some =
+    (subst (λ l. Contains l one) (sym s.parts) (Contains-append_right s.before ((one ∷ rest) ++ s.behind) one (Contains-head one (rest ++ s.behind))), s.each.0)
 
 -- a set has a record of its name and kind, or none is there
 pub set_has : (records : List Record) (owner : Labels) (kind : ℕ) (set : List Record) → IsSet records owner kind set → 0 < length set → (one : Record) × Contains records one × IsIn owner kind one
@@ -201,7 +201,7 @@ start_first (x ∷ rest) start c is =
 
 -- the least kind that answers
 pub least_of_all : (records : List Record) (source : Labels) (asked : ℕ) (least : Option ℕ) → asked ≡ every → IsLeastKindAt records source least → IsLeastKind records source asked least
-least_of_all records source asked None all none one c same answers = none one c same
+least_of_all records source asked None all none = λ one c same answers. none one c same
 least_of_all records source asked (Some kind) all h = ((h.0.0, h.0.1, h.0.2, h.0.3, inr all), λ one c same answers. h.1 one c same)
 
 pub least_of_one : (records : List Record) (source : Labels) (asked : ℕ) (set : List Record) → asked ≢ every → IsSet records source asked set → 0 < length set → IsLeastKind records source asked (Some asked)

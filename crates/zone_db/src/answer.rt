@@ -36,8 +36,9 @@ fn least_kind(zone: &Zone, source: &Name, asked: u16) -> Option<u16>
     if asked == 255 {
         return zone.least_kind(source);
     }
-    if zone.set(source, asked).is_empty() {
-        return None;
+    let set = zone.set(source, asked);
+    if set.len() > 0 {
+        return Some(asked);
     }
-    Some(asked)
+    None
 }

@@ -28,8 +28,9 @@ pub(crate) fn highest_cut<'a>(zone: &'a Zone, name: &Name) -> Option<&'a Record>
 fn ns_at<'a>(zone: &'a Zone, name: &Name) -> Option<&'a Record>
     ensures { IsNsAt zone.now.records name.now (option_map (λ r. r.now) result) }
 {
-    match zone.set(name, 2) {
-        [one, ..] => Some(one),
-        [] => None,
+    let set = zone.set(name, 2);
+    if set.len() > 0 {
+        return Some(&set[0]);
     }
+    None
 }

@@ -1,7 +1,7 @@
 use Rattle.std.proofs.Common.{ap, subst}
 use Rattle.naptr_data.specs.declared.offer.Offer.TheVariants as offer
 use Rattle.zone_db.specs.Offering.{IsReadable}
-use Rattle.zone_db.proofs.source.read_offer.Goals as goal
+use Rattle.zone_db.proofs.offer.read_offer.Goals as goal
 
 pub target_of-requires : goal.target_of-requires
 target_of-requires c = subst IsReadable c.in-Alias.is c.requires

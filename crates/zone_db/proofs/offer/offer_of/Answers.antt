@@ -1,4 +1,4 @@
-use Rattle.zone_db.proofs.source.offer_of.Goals as goal
+use Rattle.zone_db.proofs.offer.offer_of.Goals as goal
 
 pub read_offer-requires : goal.read_offer-requires
 read_offer-requires c =

@@ -1,0 +1,9 @@
+use Rattle.zone_db.proofs.SeekLemmas.{ns_first, set_none}
+use Rattle.dns_wire.specs.Kinds.{ns}
+use Rattle.zone_db.proofs.cut.ns_at.Goals as goal
+
+pub returns-then-set-gt0 : goal.returns-then-set-gt0
+returns-then-set-gt0 c = ns_first c.args.zone.now.records c.set-set.result.now c.args.name.now _ c.set-set.ensures c.if-set-gt0.true
+
+pub returns : goal.returns
+returns c = set_none c.args.zone.now.records c.args.name.now ns c.set-set.result.now c.set-set.ensures c.if-set-gt0.false
