@@ -8,7 +8,7 @@ use Rattle.std.specs.Ordering.{nat_cmp, ordering_then}
 use Rattle.std.proofs.lemmas.Bool.Decides.{nat_tests}
 use Rattle.std.proofs.lemmas.Cmp.{ranked}
 use Rattle.std.proofs.lemmas.List.{take-append-drop}
-use Rattle.naptr_data.proofs.CutLemmas.{Contains-head, Contains-behind, Contains-none, head_or_behind}
+use Rattle.naptr_data.proofs.CutLemmas.{Contains-head, Contains-after, Contains-none, head_or_after}
 use Rattle.naptr_data.proofs.BelowLemmas.{below_same_top, below_same_name}
 use Rattle.naptr_data.specs.Zones.{Labels}
 use Rattle.dns_name.specs.Name.{AreSame, IsBelow, folded_labels}
@@ -40,9 +40,9 @@ further x xs r k s = record { within = let w = s.within in omega arith; owner = 
 in_front : (n : ℕ) (xs : List Record) (r : Record) → Contains (take n xs) r → (k : ℕ) × (k < n) × StandsAt xs r k
 in_front zero xs r c = absurd (Contains-none r c)
 in_front (suc n) [] r c = absurd (Contains-none r c)
-in_front (suc n) (x ∷ xs) r c = elim (head_or_behind x (take n xs) r c) [
+in_front (suc n) (x ∷ xs) r c = elim (head_or_after x (take n xs) r c) [
   | inl here ↦ (0, omega arith, record { within = omega arith; owner = ap (λ (y : Record). y.owner) (sym here); kind = ap (λ (y : Record). y.kind) (sym here) })
-  | inr behind ↦ let f = in_front n xs r behind in let l = f.1 in (suc f.0, omega arith, further x xs r f.0 f.2)
+  | inr after ↦ let f = in_front n xs r after in let l = f.1 in (suc f.0, omega arith, further x xs r f.0 f.2)
 ]
 
 in_back : (n : ℕ) (xs : List Record) (r : Record) → Contains (drop n xs) r → (k : ℕ) × (n ≤ k) × StandsAt xs r k
@@ -167,7 +167,7 @@ starts_in_order records places kind from end f e = elim (before_or_from end from
 pub set_made : (records : List Record) (places : Places) (kind from end : ℕ) (set : List Record) → IsCanonical records → ArePlaces records places → kind ≢ soa → IsKindStart records places kind from → IsKindStart records places (kind + 1) end → set ≡ take (end - from) (drop from records) → IsSet records (owner_at records places.first) kind set
 set_made records places kind from end set c are other f e is = record {
   before = take from records;
-  behind = drop (end - from) (drop from records);
+  after = drop (end - from) (drop from records);
   parts = sym (take-append-drop from records) ∙ ap (λ l. take from records ++ l) (sym (take-append-drop (end - from) (drop from records)) ∙ ap (λ l. l ++ drop (end - from) (drop from records)) (sym is));
   each = subst (AllByRecursion (IsIn owner kind)) (sym is) (AllByRecursion-made (IsIn owner kind) (take (end - from) (drop from records)) (λ r k.
       let g = in_middle from (end - from) records r k in
@@ -181,7 +181,7 @@ set_made records places kind from end set c are other f e is = record {
       (ap folded_labels (sym g.3.owner) ∙ sym (are.here g.0 (omega arith) (omega arith)), omega arith)));
   none_before = AllByRecursion-made (λ r. ¬ IsIn owner kind r) (take from records) (λ r k i.
       let g = in_front from records r k in front_none r g.0 g.1 g.2 i);
-  none_behind = AllByRecursion-made (λ r. ¬ IsIn owner kind r) (drop (end - from) (drop from records)) (λ r k i.
+  none_after = AllByRecursion-made (λ r. ¬ IsIn owner kind r) (drop (end - from) (drop from records)) (λ r k i.
       let g = in_rest from (end - from) records r k in
       let low = g.1 in
       back_none r g.0 (omega arith) g.2 i);
@@ -207,11 +207,11 @@ set_made records places kind from end set c are other f e is = record {
 pub set_renamed : (records : List Record) (one other : Labels) (kind : ℕ) (set : List Record) → AreSame one other → IsSet records one kind set → IsSet records other kind set
 set_renamed records one other kind set same s = record {
   before = s.before;
-  behind = s.behind;
+  after = s.after;
   parts = s.parts;
   each = AllByRecursion-made (IsIn other kind) set (λ r c. let i = AllByRecursion-contains (IsIn one kind) set r s.each c in (i.0 ∙ same, i.1));
   none_before = AllByRecursion-made (λ r. ¬ IsIn other kind r) s.before (λ r c i. AllByRecursion-contains (λ r. ¬ IsIn one kind r) s.before r s.none_before c (i.0 ∙ sym same, i.1));
-  none_behind = AllByRecursion-made (λ r. ¬ IsIn other kind r) s.behind (λ r c i. AllByRecursion-contains (λ r. ¬ IsIn one kind r) s.behind r s.none_behind c (i.0 ∙ sym same, i.1));
+  none_after = AllByRecursion-made (λ r. ¬ IsIn other kind r) s.after (λ r c i. AllByRecursion-contains (λ r. ¬ IsIn one kind r) s.after r s.none_after c (i.0 ∙ sym same, i.1));
 }
 
 -- no record has that owner but the SOA
@@ -222,11 +222,11 @@ owner_lacking records index owner finds none k p l same =
 pub set_lacking : (records : List Record) (index : Indexed) (owner : Labels) (kind : ℕ) (set : List Record) → IsCanonical records → FindsOwners records index → NoneMeets At records owner (candidates index (key_of owner)) → kind ≢ soa → set ≡ take 0 records → IsSet records owner kind set
 set_lacking records index owner kind set c finds none other is = record {
   before = [];
-  behind = records;
+  after = records;
   parts = ap (λ l. l ++ records) (sym is);
   each = subst (AllByRecursion (IsIn owner kind)) (sym is) tt;
   none_before = tt;
-  none_behind = AllByRecursion-made (λ r. ¬ IsIn owner kind r) records (λ r k i. let g = stands records r k in at r g.0 g.1 i);
+  none_after = AllByRecursion-made (λ r. ¬ IsIn owner kind r) records (λ r k i. let g = stands records r k in at r g.0 g.1 i);
 }
   where
     at : (r : Record) (k : ℕ) → StandsAt records r k → ¬ IsIn owner kind r
@@ -238,22 +238,22 @@ pub soa_set_here : (records : List Record) (owner : Labels) (set : List Record) 
 soa_set_here [] owner set c same is = absurd c
 soa_set_here (x ∷ rest) owner set c same is = record {
   before = [];
-  behind = rest;
+  after = rest;
   parts = ap (λ l. l ++ rest) (sym is);
   each = subst (AllByRecursion (IsIn owner soa)) (sym is) ((same, c.0), tt);
   none_before = tt;
-  none_behind = AllByRecursion-made (λ r. ¬ IsIn owner soa r) rest (λ r k i. AllByRecursion-contains (λ (one : Record). one.kind ≢ soa) rest r c.1 k i.1);
+  none_after = AllByRecursion-made (λ r. ¬ IsIn owner soa r) rest (λ r k i. AllByRecursion-contains (λ (one : Record). one.kind ≢ soa) rest r c.1 k i.1);
 }
 
 pub soa_set_lacking : (records : List Record) (owner : Labels) (set : List Record) → IsCanonical records → ¬ AreSame (owner_at records 0) owner → set ≡ take 0 records → IsSet records owner soa set
 soa_set_lacking [] owner set c not is = absurd c
 soa_set_lacking (x ∷ rest) owner set c not is = record {
   before = [];
-  behind = x ∷ rest;
+  after = x ∷ rest;
   parts = ap (λ l. l ++ (x ∷ rest)) (sym is);
   each = subst (AllByRecursion (IsIn owner soa)) (sym is) tt;
   none_before = tt;
-  none_behind = (λ i. not i.0, AllByRecursion-made (λ r. ¬ IsIn owner soa r) rest (λ r k i. AllByRecursion-contains (λ (one : Record). one.kind ≢ soa) rest r c.1 k i.1));
+  none_after = (λ i. not i.0, AllByRecursion-made (λ r. ¬ IsIn owner soa r) rest (λ r k i. AllByRecursion-contains (λ (one : Record). one.kind ≢ soa) rest r c.1 k i.1));
 }
 
 -- the least kind at a name

@@ -16,7 +16,7 @@ use Rattle.std.specs.Ordering.{nat_cmp}
 use Rattle.std.specs.Cmp.{IsTotalOrder}
 use Rattle.std.proofs.lemmas.Cmp.{nat_list_cmp_total, on_total, tied_itself}
 use Rattle.std.proofs.lemmas.List.Elements.{Contains-append_left, Contains-append_right, Contains-append_cases, Contains-push, Contains-push_cases}
-use Rattle.naptr_data.proofs.CutLemmas.{Contains-head, Contains-behind, Contains-none, head_or_behind}
+use Rattle.naptr_data.proofs.CutLemmas.{Contains-head, Contains-after, Contains-none, head_or_after}
 use Rattle.naptr_data.proofs.BelowLemmas.{below_above, below_same_top, below_same_name, length_below, length_same}
 use Rattle.naptr_data.proofs.DecideLemmas.{below_parts}
 use Rattle.naptr_data.specs.Zones.{Labels}
@@ -35,7 +35,7 @@ use Rattle.zone_build.specs.declared.sought.Sought.TheVariants.{At, Below}
 pub record_at : (xs : List Record) (k : ℕ) → k < length xs → (r : Record) × Contains xs r × (r ≡ get_or xs k r) × (owner_at xs k ≡ r.owner) × (kind_at xs k ≡ r.kind)
 record_at [] k l = absurd (omega arith)
 record_at (x ∷ xs) zero l = (x, Contains-head x xs, refl, refl, refl)
-record_at (x ∷ xs) (suc k) l = let f = record_at xs k (omega arith) in (f.0, Contains-behind x xs f.0 f.1, f.2, f.3, f.4)
+record_at (x ∷ xs) (suc k) l = let f = record_at xs k (omega arith) in (f.0, Contains-after x xs f.0 f.1, f.2, f.3, f.4)
 
 -- what was read there
 pub owner_read : (xs : List Record) (k : ℕ) (r : Record) → k < length xs → r ≡ get_or xs k r → owner_at xs k ≡ r.owner
@@ -51,9 +51,9 @@ kind_read (x ∷ xs) (suc k) r l is = kind_read xs k r (omega arith) is
 -- each record stands at a place
 pub place_of : (xs : List Record) (r : Record) → Contains xs r → (k : ℕ) × (k < length xs) × (owner_at xs k ≡ r.owner) × (kind_at xs k ≡ r.kind)
 place_of [] r c = absurd (Contains-none r c)
-place_of (x ∷ xs) r c = elim (head_or_behind x xs r c) [
+place_of (x ∷ xs) r c = elim (head_or_after x xs r c) [
   | inl here ↦ (0, omega arith, ap (λ (y : Record). y.owner) (sym here), ap (λ (y : Record). y.kind) (sym here))
-  | inr behind ↦ let f = place_of xs r behind in let l = f.1 in (suc f.0, omega arith, f.2, f.3)
+  | inr after ↦ let f = place_of xs r after in let l = f.1 in (suc f.0, omega arith, f.2, f.3)
 ]
 
 -- the order of names
@@ -154,7 +154,7 @@ inserted_last old new key places e r = record {
     | inl front ↦ inl (Contains-append_left (option_to_list (lookup (nat_eq other) old.entries)) old.rest one (subst (λ es. Contains (option_to_list (lookup (nat_eq other) es)) one) e front))
     | inr back ↦ elim (Contains-append_cases old.rest (places ∷ []) one (subst (λ l. Contains l one) r back)) [
       | inl here ↦ inl (Contains-append_right (option_to_list (lookup (nat_eq other) old.entries)) old.rest one here)
-      | inr new ↦ elim (head_or_behind places [] one new) [ inl is ↦ inr is | inr none ↦ absurd (Contains-none one none) ]
+      | inr new ↦ elim (head_or_after places [] one new) [ inl is ↦ inr is | inr none ↦ absurd (Contains-none one none) ]
     ]
   ];
 }
@@ -180,7 +180,7 @@ inserted_key old new key places update none there r = record {
   ];
   only = λ other one c. elim (Contains-append_cases (option_to_list (lookup (nat_eq other) new.entries)) new.rest one c) [
     | inl front ↦ elim (bool_cases (nat_eq key other)) [
-      | inl hit ↦ elim (head_or_behind places [] one (subst (λ o. Contains (option_to_list o) one) (update other ∙ ap (λ b. cond b (Some places) (lookup (nat_eq other) old.entries)) hit) front)) [ inl is ↦ inr is | inr none ↦ absurd (Contains-none one none) ]
+      | inl hit ↦ elim (head_or_after places [] one (subst (λ o. Contains (option_to_list o) one) (update other ∙ ap (λ b. cond b (Some places) (lookup (nat_eq other) old.entries)) hit) front)) [ inl is ↦ inr is | inr none ↦ absurd (Contains-none one none) ]
       | inr miss ↦ inl (Contains-append_left (option_to_list (lookup (nat_eq other) old.entries)) old.rest one (subst (λ o. Contains (option_to_list o) one) (update other ∙ ap (λ b. cond b (Some places) (lookup (nat_eq other) old.entries)) miss) front))
     ]
     | inr back ↦ inl (Contains-append_right (option_to_list (lookup (nat_eq other) old.entries)) old.rest one (subst (λ l. Contains l one) r back))
@@ -241,7 +241,7 @@ none_in_both sought records name index key list is front back one c = elim (Cont
   where
     only_in : (o : Option Places) (one : Places) → Contains (option_to_list o) one → o ≡ Some one
     only_in None one c = absurd (Contains-none one c)
-    only_in (Some x) one c = elim (head_or_behind x [] one c) [ inl here ↦ ap (λ y. Some y) (sym here) | inr none ↦ absurd (Contains-none one none) ]
+    only_in (Some x) one c = elim (head_or_after x [] one c) [ inl here ↦ ap (λ y. Some y) (sym here) | inr none ↦ absurd (Contains-none one none) ]
 
 -- places in their turn
 pub none_more : (sought : Sought) (records : List Record) (name : Labels) (list : List Places) (i : ℕ) (d : Places) → i < length list → NoneMeets sought records name (take i list) → ¬ Meets sought (owner_at records (get_or list i d).first) name → NoneMeets sought records name (take (i + 1) list)

@@ -7,11 +7,11 @@ use Rattle.std.specs.Ordering.{nat_cmp, ordering_then}
 use Rattle.std.proofs.lemmas.Cmp.{nat_cmp_total, tied_itself}
 use Rattle.std.proofs.lemmas.List.{take_more, take_all, take-append-drop}
 use Rattle.std.proofs.lemmas.List.Elements.{Contains-append_left, Contains-append_right, Contains-append_cases, Contains-get_or}
-use Rattle.naptr_data.proofs.CutLemmas.{Contains-head, Contains-behind, Contains-none, head_or_behind}
-use Rattle.naptr_data.specs.Rank.{rank_of}
-use Rattle.naptr_data.specs.Rdata.{IsRule, rdata}
+use Rattle.naptr_data.proofs.CutLemmas.{Contains-head, Contains-after, Contains-none, head_or_after}
+use Rattle.naptr_rule.specs.Rank.{rank_of}
+use Rattle.naptr_rule.specs.Rdata.{IsRule, rdata}
 use Rattle.naptr_data.specs.Zones.{Labels, IsRising}
-use Rattle.naptr_data.specs.declared.rule.Naptr.{Naptr}
+use Rattle.naptr_rule.specs.declared.rule.Naptr.{Naptr}
 use Rattle.dns_wire.specs.Kinds.{soa}
 use Rattle.dns_wire.specs.Rdata.{rdata_of}
 use Rattle.dns_wire.specs.declared.content.Content.{Content}
@@ -51,12 +51,12 @@ rising_end (x ∷ xs) ys r = rising_end xs ys r.1
 pub rdata_rises : (records : List Record) (owner : Labels) (kind : ℕ) (set : List Record) → IsCanonical records → IsSet records owner kind set → RdataRises set
 rdata_rises records owner kind set c s = by s.before set (subst IsCanonical s.parts c) s.each
   where
-    by : (before set : List Record) → IsCanonical (before ++ (set ++ s.behind)) → AllByRecursion (IsIn owner kind) set → RdataRises set
-    by (b ∷ before) set c each = set_rises owner kind set s.behind (rising_end before (set ++ s.behind) c.2) each
+    by : (before set : List Record) → IsCanonical (before ++ (set ++ s.after)) → AllByRecursion (IsIn owner kind) set → RdataRises set
+    by (b ∷ before) set c each = set_rises owner kind set s.after (rising_end before (set ++ s.after) c.2) each
     by [] [] c each = tt
     by [] (x ∷ set) c each = set_rises owner kind (x ∷ set) [] (alone x set c each) each
       where
-        alone : (x : Record) (set : List Record) → IsCanonical (x ∷ (set ++ s.behind)) → AllByRecursion (IsIn owner kind) (x ∷ set) → zone.IsRising ((x ∷ set) ++ [])
+        alone : (x : Record) (set : List Record) → IsCanonical (x ∷ (set ++ s.after)) → AllByRecursion (IsIn owner kind) (x ∷ set) → zone.IsRising ((x ∷ set) ++ [])
         alone x [] c each = (tt, tt)
         alone x (y ∷ set) c each = absurd (c.1.0 (each.1.0.1 ∙ sym each.0.1 ∙ c.0))
 
@@ -80,7 +80,7 @@ rising_push (s ∷ rules) rule r before = (
     | inl old ↦ AllByRecursion-contains (λ next. rank_of s next ≡ Less) rules t r.0 old
     | inr new ↦ subst (λ u. rank_of s u ≡ Less) (sym (only_one rule t new)) (before s (Contains-head s rules))
   ]),
-  rising_push rules rule r.1 (λ t c. before t (Contains-behind s rules t c)),
+  rising_push rules rule r.1 (λ t c. before t (Contains-after s rules t c)),
 )
 
 rule_or_not : (said : Content) → ((rule : Naptr) × (said ≡ content.Naptr rule)) ⊎ ((rule : Naptr) → said ≢ content.Naptr rule)
@@ -146,9 +146,9 @@ has_more taken x old new h p before = elim (rule_or_not x.content) [
 rises_before : (set : List Record) (i : ℕ) (d y : Record) → RdataRises set → i < length set → Contains (take i set) y → bytes_cmp (rdata_of y.content) (rdata_of (get_or set i d).content) ≡ Less
 rises_before [] i d y r l c = absurd (omega arith)
 rises_before (x ∷ set) zero d y r l c = absurd (Contains-none y c)
-rises_before (x ∷ set) (suc i) d y r l c = elim (head_or_behind x (take i set) y c) [
+rises_before (x ∷ set) (suc i) d y r l c = elim (head_or_after x (take i set) y c) [
   | inl here ↦ subst (λ (z : Record). bytes_cmp (rdata_of z.content) (rdata_of (get_or set i d).content) ≡ Less) (sym here) (AllByRecursion-contains (λ next. bytes_cmp (rdata_of x.content) (rdata_of next.content) ≡ Less) set (get_or set i d) r.0 (Contains-get_or set i d (omega arith)))
-  | inr behind ↦ rises_before set i d y r.1 (omega arith) behind
+  | inr after ↦ rises_before set i d y r.1 (omega arith) after
 ]
 
 pub has_next : (set : List Record) (i : ℕ) (x : Record) (old new : List Naptr) → RdataRises set → i < length set → x ≡ get_or set i x → HasRulesOf (take i set) old → IsPushed x.content old new → HasRulesOf (take (i + 1) set) new

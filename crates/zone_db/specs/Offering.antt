@@ -4,9 +4,9 @@ use Rattle.std.specs.List.{AllByRecursion}
 use Rattle.std.specs.declared.cmp.Ordering.TheVariants.{Less}
 use Rattle.std.specs.Ordering.{nat_cmp}
 use Rattle.std.specs.Cmp.Lexicographic.{slice_cmp}
-use Rattle.naptr_data.specs.Rdata.{IsRule}
+use Rattle.naptr_rule.specs.Rdata.{IsRule}
 use Rattle.naptr_data.specs.Zones.{Labels}
-use Rattle.naptr_data.specs.declared.rule.Naptr.{Naptr}
+use Rattle.naptr_rule.specs.declared.rule.Naptr.{Naptr}
 use Rattle.dns_wire.specs.Rdata.{rdata_of}
 use Rattle.dns_wire.specs.declared.content.Content.{Content}
 use Rattle.dns_wire.specs.declared.content.Content.TheVariants as content
