@@ -1,0 +1,61 @@
+-- What was done to the objects.
+use Rattle.std.proofs.Common.{◌≡◌, ℕ, ◌<◌, List, Option, Some, None, Result, Ok, Err, refl, sym, ap, subst, ◌∙◌, arith}
+use Rattle.enum_base.specs.Causes.{Blames, HasCause}
+use Rattle.enum_base.specs.Loading.{AreTaken}
+use Rattle.enum_base.specs.Outside.{ShelfState, SinkState, SourceState}
+use Rattle.enum_base.specs.declared.fault.Failed.{Failed}
+use Rattle.enum_top.specs.Handling.{Handles, ReadsInput, ReadsShelf}
+use Rattle.enum_top.specs.declared.objects.Object.{Object}
+use Rattle.enum_top.specs.declared.objects.Object.TheVariants.{Shelf, Input, Output}
+use Rattle.enum_top.specs.declared.objects.Objects.{Objects}
+
+-- an object that is not touched is not blamed
+idle : (count : ℕ) (Blamed : Type 0) → (Blamed → ⊥) → Blames count count Blamed
+idle count Blamed none = record {
+  later = omega arith;
+  only = λ b. absurd (none b);
+  always = λ less. absurd (omega arith);
+}
+
+idle_shelf : (shelf : ShelfState) (Blamed : Type 0) → (Blamed → ⊥) → ReadsShelf shelf shelf Blamed
+idle_shelf shelf Blamed none = record { files = refl; blamed = idle shelf.faults Blamed none }
+
+none_taken : (most : ℕ) (left : Option (List ℕ)) → AreTaken most left left
+none_taken most None = (0, omega arith, refl)
+none_taken most (Some bytes) = (0, omega arith, refl)
+
+idle_input : (input : SourceState) (Blamed : Type 0) → (Blamed → ⊥) → ReadsInput input input Blamed
+idle_input input Blamed none = record { blamed = idle input.faults Blamed none; taken = λ calm. none_taken _ input.left }
+
+-- the same blame, said otherwise
+module _ (Blamed Blamed' : Type 0) (to : Blamed → Blamed') (from : Blamed' → Blamed) where
+  blames_as : (before now : ℕ) → Blames before now Blamed → Blames before now Blamed'
+  blames_as before now b = record { later = b.later; only = λ x. b.only (from x); always = λ less. to (b.always less) }
+
+  shelf_as : (old new : ShelfState) → ReadsShelf old new Blamed → ReadsShelf old new Blamed'
+  shelf_as old new r = record { files = r.files; blamed = blames_as old.faults new.faults r.blamed }
+
+  input_as : (old new : SourceState) → ReadsInput old new Blamed → ReadsInput old new Blamed'
+  input_as old new r = record { blamed = blames_as old.faults new.faults r.blamed; taken = λ calm. r.taken (λ x. calm (to x)) }
+
+-- a call is blamed exactly where it failed
+pub blames_call : {T : Type 0} (before now : ℕ) (value : T) (Blamed : Type 0) → (Blamed → ⊥) → HasCause before now (Ok {T} {Failed} value) → Blames before now Blamed
+blames_call before now value Blamed none h =
+    let same = h.kept in record { later = h.later; only = λ b. absurd (none b); always = λ less. absurd (omega (arith, same, less)) }
+
+pub blames_failed : {T : Type 0} (before now : ℕ) (fault : Failed) (Blamed : Type 0) → Blamed → HasCause before now (Err {T} fault) → Blames before now Blamed
+blames_failed before now fault Blamed blamed h = record { later = h.later; only = λ b. h.failed; always = λ less. blamed }
+
+module _ {S I O : Type 0} (of_shelf : S → ShelfState) (of_input : I → SourceState) (of_out : O → SinkState) where
+  -- more objects may be used, and the blame may be said otherwise
+  pub handles_as : (Used Used' Blamed Blamed' : Object → Type 0) (old new : Objects S I O) → ((object : Object) → Used object → Used' object) → ((object : Object) → Blamed object → Blamed' object) → ((object : Object) → Blamed' object → Blamed object) → Handles of_shelf of_input of_out Used Blamed old new → Handles of_shelf of_input of_out Used' Blamed' old new
+  handles_as Used Used' Blamed Blamed' old new uses to from h = record {
+    shelf = shelf_as (Blamed Shelf) (Blamed' Shelf) (to Shelf) (from Shelf) _ _ h.shelf;
+    input = input_as (Blamed Input) (Blamed' Input) (to Input) (from Input) _ _ h.input;
+    output = blames_as (Blamed Output) (Blamed' Output) (to Output) (from Output) _ _ h.output;
+    unused_shelf = λ unused. h.unused_shelf (λ u. unused (uses Shelf u));
+    unused_input = λ unused. h.unused_input (λ u. unused (uses Input u));
+    same_shelf = h.same_shelf;
+    same_input = h.same_input;
+    same_out = h.same_out;
+  }
