@@ -22,7 +22,7 @@ pub record MemorySource : Type 0 where
   pub faults : ℕ
 
 -- the bytes held, the most taken by one write, the numbers of the calls that fail, how many calls were made and failed,
--- and how many of these failed for want of memory
+-- and how many of these failed out of memory
 pub record MemorySink : Type 0 where
   pub held : List ℕ
   pub most : ℕ
