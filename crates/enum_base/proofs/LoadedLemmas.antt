@@ -16,6 +16,7 @@ after-front bytes None = refl
 after-front bytes (Some rest) = ap Some (drop-append_seam bytes rest)
 
 -- what was read before and now is taken from what was left at first
-pub taken_after : (bytes : List ℕ) (n : ℕ) (left left' now : Option (List ℕ)) → left ≡ option_map (λ rest. bytes ++ rest) left' → now ≡ after n left' → now ≡ after (length bytes + n) left
+pub taken_after : (bytes : List ℕ) (n : ℕ) (left left' now : Option (List ℕ))
+    → left ≡ option_map (λ rest. bytes ++ rest) left' → now ≡ after n left' → now ≡ after (length bytes + n) left
 taken_after bytes n left left' now parts then =
     then ∙ ap (after n) (sym (ap (after (length bytes)) parts ∙ after-front bytes left')) ∙ after-twice (length bytes) n left

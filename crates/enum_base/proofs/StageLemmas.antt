@@ -20,7 +20,8 @@ pub IsTotal-is : {A F : Type 0} (wanted : Result A F) → IsTotal (λ result. re
 IsTotal-is wanted = record { result = wanted; comes = refl }
 
 -- one stage and then the next
-pub IsSingle-then : {A B F : Type 0} (One : Result A F → Type 0) (Next : A → Result B F → Type 0) → IsSingle One → ((value : A) → IsSingle (Next value)) → IsSingle (Then One Next)
+pub IsSingle-then : {A B F : Type 0} (One : Result A F → Type 0) (Next : A → Result B F → Type 0) → IsSingle One
+    → ((value : A) → IsSingle (Next value)) → IsSingle (Then One Next)
 IsSingle-then {A} {B} {F} One Next one next = record { same = same }
   where
     same : (r s : Result B F) → Then One Next r → Then One Next s → r ≡ s
@@ -32,7 +33,8 @@ IsSingle-then {A} {B} {F} One Next one next = record { same = same }
     same r s (stops c h is) (stops d h' is') =
         let faults : c ≡ d = cc (one.same (Err c) (Err d) h h') in is ∙ ap Err faults ∙ sym is'
 
-pub IsTotal-then : {A B F : Type 0} (One : Result A F → Type 0) (Next : A → Result B F → Type 0) → IsTotal One → ((value : A) → One (Ok value) → IsTotal (Next value)) → IsTotal (Then One Next)
+pub IsTotal-then : {A B F : Type 0} (One : Result A F → Type 0) (Next : A → Result B F → Type 0) → IsTotal One
+    → ((value : A) → One (Ok value) → IsTotal (Next value)) → IsTotal (Then One Next)
 IsTotal-then {A} {B} {F} One Next one next = from one.result one.comes
   where
     from : (r : Result A F) → One r → IsTotal (Then One Next)

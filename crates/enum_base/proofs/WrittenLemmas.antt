@@ -13,9 +13,15 @@ pub record IsWritten (old new : SinkState) (n : ℕ) (bytes : List ℕ) : Type 0
   pub count : new.faults ≡ old.faults
 
 -- the next piece of the bytes comes after those written before
-pub next_piece : (held before after : Option (List ℕ)) (bytes : List ℕ) (n m : ℕ) → before ≡ with_more held (take n bytes) → after ≡ with_more before (take m (take (length bytes - n) (drop n bytes))) → after ≡ with_more held (take (n + m) bytes)
+pub next_piece : (held before after : Option (List ℕ)) (bytes : List ℕ) (n m : ℕ)
+    → before ≡ with_more held (take n bytes)
+    → after ≡ with_more before (take m (take (length bytes - n) (drop n bytes)))
+    → after ≡ with_more held (take (n + m) bytes)
 next_piece held before after bytes n m e f =
-    f ∙ ap (λ h. with_more h (take m (take (length bytes - n) (drop n bytes)))) e ∙ with_more-twice held (take n bytes) (take m (take (length bytes - n) (drop n bytes))) ∙ ap (λ rest. with_more held (take n bytes ++ take m rest)) (take_rest bytes n) ∙ ap (with_more held) (sym (take-add n m bytes))
+    f ∙ ap (λ h. with_more h (take m (take (length bytes - n) (drop n bytes)))) e
+    ∙ with_more-twice held (take n bytes) (take m (take (length bytes - n) (drop n bytes)))
+    ∙ ap (λ rest. with_more held (take n bytes ++ take m rest)) (take_rest bytes n)
+    ∙ ap (with_more held) (sym (take-add n m bytes))
 
 -- a front of one piece is a front of it and what comes after
 front-append : (n : ℕ) (one other : List ℕ) → take (min n (length one)) (one ++ other) ≡ take n one
@@ -30,10 +36,15 @@ Takes-first old new one other t rose = record {
 }
 
 -- the first piece was taken whole, and then a front of the second
-pub Takes-second : (old between new : SinkState) (one other : List ℕ) → Gains old between one → between.faults ≡ old.faults → Takes between new other → Takes old new (one ++ other)
+pub Takes-second : (old between new : SinkState) (one other : List ℕ) → Gains old between one
+    → between.faults ≡ old.faults → Takes between new other → Takes old new (one ++ other)
 Takes-second old between new one other whole count t = record {
-  front =
-      (length one + t.front.0, t.front.1 ∙ ap (λ h. with_more h (take t.front.0 other)) whole ∙ with_more-twice old.held one (take t.front.0 other) ∙ ap (with_more old.held) (sym (take-append-add one other t.front.0)));
+  front = (
+    length one + t.front.0,
+    t.front.1 ∙ ap (λ h. with_more h (take t.front.0 other)) whole
+        ∙ with_more-twice old.held one (take t.front.0 other)
+        ∙ ap (with_more old.held) (sym (take-append-add one other t.front.0)),
+  );
   whole = λ calm.
       t.whole (λ rose. calm (subst (λ n. Rose n new.faults) count rose)) ∙ ap (λ h. with_more h other) whole ∙ with_more-twice old.held one other;
 }
