@@ -12,12 +12,12 @@ pub record IsWritten (old new : SinkState) (n : ℕ) (bytes : List ℕ) : Type 0
   pub taken : Gains old new (take n bytes)
   pub count : new.faults ≡ old.faults
 
--- the next piece of the bytes comes behind those written before
+-- the next piece of the bytes comes after those written before
 pub next_piece : (held before after : Option (List ℕ)) (bytes : List ℕ) (n m : ℕ) → before ≡ with_more held (take n bytes) → after ≡ with_more before (take m (take (length bytes - n) (drop n bytes))) → after ≡ with_more held (take (n + m) bytes)
 next_piece held before after bytes n m e f =
     f ∙ ap (λ h. with_more h (take m (take (length bytes - n) (drop n bytes)))) e ∙ with_more-twice held (take n bytes) (take m (take (length bytes - n) (drop n bytes))) ∙ ap (λ rest. with_more held (take n bytes ++ take m rest)) (take_rest bytes n) ∙ ap (with_more held) (sym (take-add n m bytes))
 
--- a front of one piece is a front of it and what comes behind
+-- a front of one piece is a front of it and what comes after
 front-append : (n : ℕ) (one other : List ℕ) → take (min n (length one)) (one ++ other) ≡ take n one
 front-append n one other =
     take-append-le (min n (length one)) one other (omega arith) ∙ take_min n one
