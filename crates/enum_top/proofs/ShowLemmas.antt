@@ -1,6 +1,6 @@
 -- The work of `show` comes to one verdict.
 use Rattle.std.proofs.Common.{◌≡◌, ℕ, List, Option, Some, None, refl, sym, subst}
-use Rattle.enum_base.proofs.StageLaws.{IsSingle}
+use Rattle.enum_base.proofs.StageLemmas.{IsSingle}
 use Rattle.enum_top.specs.Showing.{Shows, show_work}
 use Rattle.enum_top.specs.Verdicts.{IsSound}
 use Rattle.enum_top.proofs.LawLemmas.{Laws}

@@ -1,6 +1,6 @@
 -- The work of a command that prints nothing before it is done.
 use Rattle.std.proofs.Common.{◌≡◌, ℕ, List, Result, Err, refl, sym, ap, ◌∙◌}
-use Rattle.enum_base.proofs.StageLaws.{IsSingle, IsTotal}
+use Rattle.enum_base.proofs.StageLemmas.{IsSingle, IsTotal}
 use Rattle.enum_top.specs.Verdicts.{AreTold, AtOnce, IsSound, Told, Verdict, Work, whole}
 use Rattle.enum_top.specs.declared.cause.Cause.{Cause}
 use Rattle.enum_top.specs.declared.objects.Object.{Object}
