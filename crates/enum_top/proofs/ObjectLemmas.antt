@@ -59,3 +59,55 @@ module _ {S I O : Type 0} (of_shelf : S → ShelfState) (of_input : I → Source
     same_input = h.same_input;
     same_out = h.same_out;
   }
+
+  -- the shelf alone was read
+  pub shelf_alone : (Used Blamed : Object → Type 0) (old new : Objects S I O) → Used Shelf → (Used Input → ⊥) → (Used Output → ⊥) → ((object : Object) → Blamed object → Used object) → ReadsShelf (of_shelf old.shelf.now) (of_shelf new.shelf.now) (Blamed Shelf) → new.input.now ≡ old.input.now → new.out.now ≡ old.out.now → new.shelf.ghost_name ≡ old.shelf.ghost_name → new.input.ghost_name ≡ old.input.ghost_name → new.out.ghost_name ≡ old.out.ghost_name → Handles of_shelf of_input of_out Used Blamed old new
+  shelf_alone Used Blamed old new used no_input no_output blamed reads input out same_shelf same_input same_out = record {
+    shelf = reads;
+    input = subst (λ (x : I). ReadsInput (of_input old.input.now) (of_input x) (Blamed Input)) (sym input) (idle_input (of_input old.input.now) (Blamed Input) (λ b. no_input (blamed Input b)));
+    output = subst (λ (x : O). Blames (of_out old.out.now).faults (of_out x).faults (Blamed Output)) (sym out) (idle (of_out old.out.now).faults (Blamed Output) (λ b. no_output (blamed Output b)));
+    unused_shelf = λ unused. absurd (unused used);
+    unused_input = λ unused. input;
+    same_shelf = same_shelf;
+    same_input = same_input;
+    same_out = same_out;
+  }
+
+  -- the input alone was read
+  pub input_alone : (Used Blamed : Object → Type 0) (old new : Objects S I O) → Used Input → (Used Shelf → ⊥) → (Used Output → ⊥) → ((object : Object) → Blamed object → Used object) → ReadsInput (of_input old.input.now) (of_input new.input.now) (Blamed Input) → new.shelf.now ≡ old.shelf.now → new.out.now ≡ old.out.now → new.shelf.ghost_name ≡ old.shelf.ghost_name → new.input.ghost_name ≡ old.input.ghost_name → new.out.ghost_name ≡ old.out.ghost_name → Handles of_shelf of_input of_out Used Blamed old new
+  input_alone Used Blamed old new used no_shelf no_output blamed reads shelf out same_shelf same_input same_out = record {
+    shelf = subst (λ (x : S). ReadsShelf (of_shelf old.shelf.now) (of_shelf x) (Blamed Shelf)) (sym shelf) (idle_shelf (of_shelf old.shelf.now) (Blamed Shelf) (λ b. no_shelf (blamed Shelf b)));
+    input = reads;
+    output = subst (λ (x : O). Blames (of_out old.out.now).faults (of_out x).faults (Blamed Output)) (sym out) (idle (of_out old.out.now).faults (Blamed Output) (λ b. no_output (blamed Output b)));
+    unused_shelf = λ unused. shelf;
+    unused_input = λ unused. absurd (unused used);
+    same_shelf = same_shelf;
+    same_input = same_input;
+    same_out = same_out;
+  }
+
+  -- no object was used
+  pub none_used : (Used Blamed : Object → Type 0) (objects : Objects S I O) → ((object : Object) → Blamed object → ⊥) → Handles of_shelf of_input of_out Used Blamed objects objects
+  none_used Used Blamed objects none = record {
+    shelf = idle_shelf (of_shelf objects.shelf.now) (Blamed Shelf) (none Shelf);
+    input = idle_input (of_input objects.input.now) (Blamed Input) (none Input);
+    output = idle (of_out objects.out.now).faults (Blamed Output) (none Output);
+    unused_shelf = λ unused. refl;
+    unused_input = λ unused. refl;
+    same_shelf = refl;
+    same_input = refl;
+    same_out = refl;
+  }
+
+  -- the work was done, and the output was written
+  pub output_written : (Used Blamed Blamed' : Object → Type 0) (old between new : Objects S I O) → Handles of_shelf of_input of_out Used Blamed old between → ((object : Object) → Blamed object → ⊥) → (Blamed' Shelf → ⊥) → (Blamed' Input → ⊥) → between.out.now ≡ old.out.now → new.shelf.now ≡ between.shelf.now → new.input.now ≡ between.input.now → new.shelf.ghost_name ≡ between.shelf.ghost_name → new.input.ghost_name ≡ between.input.ghost_name → new.out.ghost_name ≡ between.out.ghost_name → Blames (of_out between.out.now).faults (of_out new.out.now).faults (Blamed' Output) → Handles of_shelf of_input of_out Used Blamed' old new
+  output_written Used Blamed Blamed' old between new h none no_shelf no_input unwritten shelf input same_shelf same_input same_out b = record {
+    shelf = subst (λ (x : S). ReadsShelf (of_shelf old.shelf.now) (of_shelf x) (Blamed' Shelf)) (sym shelf) (shelf_as (Blamed Shelf) (Blamed' Shelf) (λ x. absurd (none Shelf x)) (λ x. absurd (no_shelf x)) _ _ h.shelf);
+    input = subst (λ (x : I). ReadsInput (of_input old.input.now) (of_input x) (Blamed' Input)) (sym input) (input_as (Blamed Input) (Blamed' Input) (λ x. absurd (none Input x)) (λ x. absurd (no_input x)) _ _ h.input);
+    output = subst (λ (x : O). Blames (of_out x).faults (of_out new.out.now).faults (Blamed' Output)) unwritten b;
+    unused_shelf = λ unused. shelf ∙ h.unused_shelf unused;
+    unused_input = λ unused. input ∙ h.unused_input unused;
+    same_shelf = same_shelf ∙ h.same_shelf;
+    same_input = same_input ∙ h.same_input;
+    same_out = same_out ∙ h.same_out;
+  }

@@ -7,7 +7,7 @@ mod help;
 mod std_sink;
 mod std_source;
 
-use enum_top::{Object, Status, run};
+use enum_top::{Object, Status, Why, run};
 use file_shelf::FileShelf;
 use help::{HELP, VERSION};
 use std::process::ExitCode;
@@ -20,7 +20,7 @@ fn main(rt: HostRuntime) -> ExitCode {
         Ok(words) => words,
         Err(error) if error.kind() == io::ErrorKind::OutOfMemory => {
             let _ = eprintln!(rt; "enumd: memory");
-            return exit_code(Status::Memory);
+            return exit_code(Status::Refused(Why::Memory));
         }
         // Words that are no text are no request.
         Err(_) => Vec::new(rt.alloc()),
@@ -57,7 +57,7 @@ fn read_words(rt: &HostRuntime) -> io::Result<Vec<String>> {
 fn tell(rt: &HostRuntime, text: &str) -> ExitCode {
     if rt.print(text).is_err() {
         let _ = eprintln!(rt; "enumd: outside output");
-        return exit_code(Status::Outside(Object::Output));
+        return exit_code(Status::Refused(Why::Outside(Object::Output)));
     }
     ExitCode::SUCCESS
 }
