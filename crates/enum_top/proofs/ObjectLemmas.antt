@@ -17,7 +17,7 @@ idle count Blamed none = record {
   always = λ less. absurd (omega arith);
 }
 
-idle_shelf : (shelf : ShelfState) (Blamed : Type 0) → (Blamed → ⊥) → ReadsShelf shelf shelf Blamed
+pub idle_shelf : (shelf : ShelfState) (Blamed : Type 0) → (Blamed → ⊥) → ReadsShelf shelf shelf Blamed
 idle_shelf shelf Blamed none = record { files = refl; blamed = idle shelf.faults Blamed none }
 
 none_taken : (most : ℕ) (left : Option (List ℕ)) → AreTaken most left left
@@ -32,18 +32,18 @@ module _ (Blamed Blamed' : Type 0) (to : Blamed → Blamed') (from : Blamed' →
   blames_as : (before now : ℕ) → Blames before now Blamed → Blames before now Blamed'
   blames_as before now b = record { later = b.later; only = λ x. b.only (from x); always = λ less. to (b.always less) }
 
-  shelf_as : (old new : ShelfState) → ReadsShelf old new Blamed → ReadsShelf old new Blamed'
+  pub shelf_as : (old new : ShelfState) → ReadsShelf old new Blamed → ReadsShelf old new Blamed'
   shelf_as old new r = record { files = r.files; blamed = blames_as old.faults new.faults r.blamed }
 
   input_as : (old new : SourceState) → ReadsInput old new Blamed → ReadsInput old new Blamed'
   input_as old new r = record { blamed = blames_as old.faults new.faults r.blamed; taken = λ calm. r.taken (λ x. calm (to x)) }
 
 -- a call is blamed exactly where it failed
-pub blames_call : {T : Type 0} (before now : ℕ) (value : T) (Blamed : Type 0) → (Blamed → ⊥) → HasCause before now (Ok {T} {Failed} value) → Blames before now Blamed
+pub blames_call : {T : Type 0} (before now : ℕ) (value : T) (Blamed : Type 0) → (Blamed → ⊥) → HasCause {T = T} {E = Failed} before now (Ok value) → Blames before now Blamed
 blames_call before now value Blamed none h =
     let same = h.kept in record { later = h.later; only = λ b. absurd (none b); always = λ less. absurd (omega (arith, same, less)) }
 
-pub blames_failed : {T : Type 0} (before now : ℕ) (fault : Failed) (Blamed : Type 0) → Blamed → HasCause before now (Err {T} fault) → Blames before now Blamed
+pub blames_failed : {T : Type 0} (before now : ℕ) (fault : Failed) (Blamed : Type 0) → Blamed → HasCause {T = T} {E = Failed} before now (Err fault) → Blames before now Blamed
 blames_failed before now fault Blamed blamed h = record { later = h.later; only = λ b. h.failed; always = λ less. blamed }
 
 module _ {S I O : Type 0} (of_shelf : S → ShelfState) (of_input : I → SourceState) (of_out : O → SinkState) where

@@ -38,7 +38,7 @@ told_is (Some value) some = (value, refl)
 
 pub IsSound-resolve : Laws → (words : List (List ℕ)) (asked : Resolution) → IsSound (resolve_work words asked)
 IsSound-resolve laws words asked =
-    IsSound-at_once (λ told. Resolves told.files words asked) _ _ _
+    IsSound-at_once (λ told. Resolves told.files words asked) (resolve_work words asked).breaks (resolve_work words asked).uses (resolve_work words asked).fronts
     (λ told seen. let files = told_is told.files (seen.on_shelf refl) in subst (λ (fs : Option (List File)). IsSingle (Resolves fs words asked)) (sym files.1) (IsSingle-resolves laws.one_zones laws.one_text files.0 words asked))
     (λ told. IsTotal-resolves laws.some_zones laws.some_report laws.rules_apart told.files words asked)
     (λ told cause broken. stops cause broken refl)

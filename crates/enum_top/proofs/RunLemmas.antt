@@ -1,5 +1,6 @@
 -- From how a run goes to what it always answers.
 use Rattle.std.proofs.Common.{◌≡◌, ◌⊎◌, inl, inr, ℕ, List, refl, subst}
+use Rattle.enum_base.specs.Causes.{Blames, Rose}
 use Rattle.enum_base.specs.Outside.{SinkState}
 use Rattle.enum_base.specs.Writing.{Takes}
 use Rattle.request_words.proofs.ReadingLemmas.{one_request}
@@ -11,7 +12,7 @@ use Rattle.enum_top.specs.Running.{EndsWith, Runs}
 use Rattle.enum_top.specs.Verdicts.{AreTold, Told, Verdict}
 use Rattle.enum_top.specs.Verdicts.Verdict.{prints, refuses}
 use Rattle.enum_top.specs.declared.objects.Object.{Object}
-use Rattle.enum_top.specs.declared.objects.Object.TheVariants.{Output}
+use Rattle.enum_top.specs.declared.objects.Object.TheVariants.{Shelf, Input, Output}
 use Rattle.enum_top.specs.declared.status.Status.{Status}
 use Rattle.enum_top.specs.declared.status.Status.TheVariants.{Ended, Refused}
 use Rattle.enum_top.specs.declared.why.Why.{Why}
@@ -56,3 +57,9 @@ module _ (told : Told) (words : List (List ℕ)) (out out' err err' : SinkState)
       at : ((other : Verdict) × (work_of words asked).answers told other × EndsWith words other end out out' err err') ⊎ (end ≡ Refused Memory) → EndsWith words verdict end out out' err err' ⊎ (end ≡ Refused Memory)
       at (inl (other, a, ends)) = inl (subst (λ (v : Verdict). EndsWith words v end out out' err err') (law told words asked other verdict seen a h) ends)
       at (inr wanting) = inr wanting
+
+-- no object that is used failed
+pub calm_objects : (Used : Object → Type 0) (end : Status) (shelf shelf' input input' out out' : ℕ) → (Used Shelf → Rose shelf shelf' → ⊥) → (Used Input → Rose input input' → ⊥) → (Rose out out' → ⊥) → Blames shelf shelf' (end ≡ Refused (Outside Shelf)) → Blames input input' (end ≡ Refused (Outside Input)) → Blames out out' (end ≡ Refused (Outside Output)) → (object : Object) → Used object → end ≡ Refused (Outside object) → ⊥
+calm_objects Used end shelf shelf' input input' out out' calm_shelf calm_input calm_out b d f Shelf used e = calm_shelf used (b.only e)
+calm_objects Used end shelf shelf' input input' out out' calm_shelf calm_input calm_out b d f Input used e = calm_input used (d.only e)
+calm_objects Used end shelf shelf' input input' out out' calm_shelf calm_input calm_out b d f Output used e = calm_out (f.only e)

@@ -28,5 +28,5 @@ abbrev pub Leaves : Told → List (List ℕ) → List ℕ → Type 0
 Leaves told words front = (front ≡ []) ⊎ ((asked : Request) × Means words asked × (work_of words asked).fronts told front)
 
 -- a text of which a front is left where the output failed
-abbrev pub IsText : Told → List (List ℕ) → List ℕ → Type 0
-IsText told words text = ((verdict : Verdict) × ComesTo told words verdict × (text ≡ gain_of verdict)) ⊎ Leaves told words text
+abbrev pub IsOutput : Told → List (List ℕ) → List ℕ → Type 0
+IsOutput told words text = ((verdict : Verdict) × ComesTo told words verdict × (text ≡ gain_of verdict)) ⊎ Leaves told words text

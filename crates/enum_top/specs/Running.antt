@@ -15,7 +15,7 @@ use Rattle.zone_text.specs.declared.fault.TextFault.{TextFault}
 use Rattle.zone_token.specs.declared.fault.TextWhy.TheVariants as text
 use Rattle.enum_top.specs.Applications as applications
 use Rattle.enum_top.specs.FaultLines.{cause_line}
-use Rattle.enum_top.specs.Requests.{ComesTo, IsText, Leaves, Need, work_of}
+use Rattle.enum_top.specs.Requests.{ComesTo, IsOutput, Leaves, Need, work_of}
 use Rattle.enum_top.specs.Verdicts.{Told, Verdict, Work, whole}
 use Rattle.enum_top.specs.Verdicts.Verdict.{prints, refuses}
 use Rattle.enum_top.specs.ZoneFiles.{Texts}
@@ -114,7 +114,7 @@ pub record Runs (told : Told) (words : List (List ℕ)) (out out' : SinkState) (
   pub printed : (ending : Ending) → end ≡ Ended ending → (text : List ℕ) × ComesTo told words (prints ending text) × Gains out out' text
   pub judged : (cause : Cause) → end ≡ Refused (Judged cause) → (front : List ℕ) × ComesTo told words (refuses front cause) × Gains out out' front
   pub failed : (object : Object) → end ≡ Refused (Outside object) → Need words object ⊎ (object ≡ Output)
-  pub cut : end ≡ Refused (Outside Output) → (text : List ℕ) × IsText told words text × ((n : ℕ) × Gains out out' (take n text))
+  pub cut : end ≡ Refused (Outside Output) → (text : List ℕ) × IsOutput told words text × ((n : ℕ) × Gains out out' (take n text))
   pub kept : (why : Why) → HasNoVerdict why → end ≡ Refused why → (front : List ℕ) × Leaves told words front × Gains out out' front
 
 -- a run ended by this verdict

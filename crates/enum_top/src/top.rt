@@ -8,12 +8,11 @@ ghost use Rattle.request_words.specs.declared.request.Request.{Request};
 ghost use Rattle.enum_top.specs.FaultLines.{cause_line, line_of};
 ghost use Rattle.enum_top.specs.Handling.{Handles};
 ghost use Rattle.enum_top.specs.Inputs.{most_input};
-ghost use Rattle.enum_top.specs.Requests.{ComesTo, IsText, Leaves, Need, work_of};
+ghost use Rattle.enum_top.specs.Requests.{ComesTo, IsOutput, Leaves, Need, work_of};
 ghost use Rattle.enum_top.specs.Running.{DoesWork, EndsWith, HasNoVerdict, Runs};
 ghost use Rattle.enum_top.specs.Verdicts.{AreTold, Verdict, told_by};
 ghost use Rattle.enum_top.specs.Verdicts.Verdict.{prints, refuses};
 ghost use Rattle.enum_top.specs.declared.cause.Cause.{Cause};
-ghost use Rattle.enum_top.specs.declared.objects.Object.{Object};
 ghost use Rattle.enum_top.specs.declared.status.Ending.{Ending};
 ghost use Rattle.enum_top.specs.declared.why.Why.{Why};
 
@@ -86,7 +85,7 @@ pub fn run<S: Shelf, I: Source, O: Sink, E: Sink>(
         → (front : List ℕ) × Leaves (told_by (S.state shelf.old) (I.state input.old)) (texts_of words.now) front
         × Gains (O.state out.old) (O.state out.new) front }
     ensures cut { result ≡ Status.Refused (Why.Outside Object.Output)
-        → (text : List ℕ) × IsText (told_by (S.state shelf.old) (I.state input.old)) (texts_of words.now) text
+        → (text : List ℕ) × IsOutput (told_by (S.state shelf.old) (I.state input.old)) (texts_of words.now) text
         × ((n : ℕ) × Gains (O.state out.old) (O.state out.new) (take n text)) }
 
     // What the sink of the fault lines holds.
