@@ -33,7 +33,7 @@ abbrev pub EndsAtEnd : ℕ → Option (List ℕ) → Type 0
 EndsAtEnd n None = ⊤
 EndsAtEnd n (Some left) = (n ≡ 0) ↔ (left ≡ [])
 
--- the bytes held, with more behind them
+-- the bytes held, with more after them
 abbrev pub with_more : Option (List ℕ) → List ℕ → Option (List ℕ)
 with_more held more = option_map (λ bytes. bytes ++ more) held
 

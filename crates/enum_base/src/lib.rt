@@ -5,6 +5,7 @@
 mod buffer;
 mod bytes;
 mod calls;
+mod escape;
 mod fault;
 mod fold;
 mod given;
@@ -22,6 +23,7 @@ mod write;
 
 pub use buffer::Buffer;
 pub use bytes::Bytes;
+pub use escape::{decimal_escape, escaped_byte};
 pub use fault::{Failed, MemoryFault};
 pub use fold::{fold_byte, same_folded};
 pub use given::Given;

@@ -18,7 +18,7 @@ use Rattle.enum_top.specs.Running.{wanted_or_cause}
 use Rattle.enum_base.specs.Stages.Then.{goes, stops}
 use Rattle.enum_top.specs.declared.cause.Cause.{Cause}
 use Rattle.enum_top.specs.declared.cause.Cause.TheVariants.{Number, Domain}
-use Rattle.enum_base.proofs.StageLaws.{IsSingle, IsSingle-is, IsSingle-then}
+use Rattle.enum_base.proofs.StageLemmas.{IsSingle, IsSingle-is, IsSingle-then}
 
 -- a string has one reading, or one fault
 pub IsSingle-strings : (app : AppName) (text : List ℕ) → IsSingle (Strings app text)
