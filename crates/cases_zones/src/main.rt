@@ -4,16 +4,18 @@
 //! Of messages, which are hexadecimal (modules `messages`, `chains`, `streams`):
 //!
 //! - `decode MESSAGE`: the lines of the message, or its fault
-//! - `encode MESSAGE`: the message is read, written and read back, and written again; of a long one how many bytes it has
+//! - `encode MESSAGE`: the bytes of the message that is read, written; of a long one how many. The message that is read back
+//!   has to give the same bytes
 //! - `copy MESSAGE`: owner, TTL, class, type and RDATA of a copy of each record
 //! - `cuts MESSAGE`: from which length on the front of the message has which fault
 //! - `chain N`: the owner behind a chain of N pointers, each to the one before it
 //! - `labels N`: the same, with a label before each pointer
+//! - `far N`: the owner that is a pointer to a name N bytes into the RDATA of the record before it
 //! - `frames STEP..`: a step is a piece of a stream, or `?` for the next message
 //! - `everywhere STREAM`: the messages of a stream that is fed in two pieces, cut at every byte
 //! - `bytes STREAM`: the messages of a stream that is fed a byte at a time
 //!
-//! Of zone texts (module `texts`): `origin NAME` sets the origin, `text TEXT` and `many TEXT` read a text.
+//! Of zone texts (module `texts`): `origin NAME` sets the origin; `text TEXT`, `many TEXT` and `once TEXT` read a text.
 //!
 //! The other verbs are those of zones (module `script`).
 #![tactic(auto)]
@@ -47,7 +49,7 @@ impl Cases for Script {
         let (verb, rest) = line.split_once(' ').unwrap_or((line, ""));
         let answer = match verb {
             "decode" | "encode" | "copy" | "cuts" => messages::answer(alloc, verb, rest)?,
-            "chain" | "labels" => chains::answer(alloc, verb, rest)?,
+            "chain" | "labels" | "far" => chains::answer(alloc, verb, rest)?,
             "frames" | "everywhere" | "bytes" => streams::answer(alloc, verb, rest)?,
             _ => return self.read(alloc, verb, rest),
         };

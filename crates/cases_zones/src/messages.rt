@@ -40,13 +40,17 @@ fn lines(alloc: Global, message: &Message) -> Result<String, MemoryFault> {
     Ok(told)
 }
 
-// The bytes of a message that is written, read again and written once more.
+// The bytes of a message that is written, if those of the message that is read back are the same.
 fn written(alloc: Global, message: &Message) -> Result<String, MemoryFault> {
     let mut out = Bytes::new(alloc);
-    match write_again(alloc, message, &mut out) {
+    let mut again = Bytes::new(alloc);
+    match write_twice(alloc, message, &mut out, &mut again) {
         Ok(()) => {}
         Err(EncodeFault::TooLong) => return Ok("TooLong".to_string(alloc)?),
         Err(EncodeFault::Memory) => return Err(MemoryFault),
+    }
+    if again.as_slice() != out.as_slice() {
+        return Ok("another message is read back".to_string(alloc)?);
     }
     let size = out.as_slice().len();
     if size > 300 {
@@ -55,9 +59,16 @@ fn written(alloc: Global, message: &Message) -> Result<String, MemoryFault> {
     hex_of(alloc, out.as_slice())
 }
 
-fn write_again(alloc: Global, message: &Message, out: &mut Bytes) -> Result<(), EncodeFault> {
-    let again = read_back(alloc, message)?;
-    encode(&again, out)
+// Writes a message, and once more as it is read back.
+fn write_twice(
+    alloc: Global,
+    message: &Message,
+    out: &mut Bytes,
+    again: &mut Bytes,
+) -> Result<(), EncodeFault> {
+    encode(message, out)?;
+    let back = read_back(alloc, message)?;
+    encode(&back, again)
 }
 
 // The fields of a copy of each record.

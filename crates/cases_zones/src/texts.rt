@@ -1,5 +1,6 @@
 //! Zone texts. `text TEXT` is fed whole and then byte by byte, and the lines of its records are read again; where another
-//! answer comes there, it is told too. `many TEXT` is fed in larger pieces, and the number of its records is told.
+//! answer comes there, it is told too. `many TEXT` is fed in larger pieces, and `once TEXT` in one, and the number of its
+//! records is told.
 ghost use Rattle.std.specs.Prelude.{IfOk, Contains};
 ghost use Rattle.dns_wire.specs.declared.record.Record as spec;
 ghost use Rattle.zone_build.specs.Zone.{IsPlain};
@@ -51,11 +52,16 @@ fn told_again(alloc: Global, records: &Records) -> Result<Bytes, MemoryFault> {
     Ok(told)
 }
 
-/// What is told of a large text.
-pub fn counted(alloc: Global, origin: Name, text: &str) -> Result<String, MemoryFault> {
+/// What is told of a large text that is fed in pieces of so many bytes.
+pub fn counted(
+    alloc: Global,
+    origin: Name,
+    text: &str,
+    size: usize,
+) -> Result<String, MemoryFault> {
     let bytes = bytes_of(alloc, text)?;
     let mut told = Bytes::new(alloc);
-    match read(alloc, origin, bytes.as_slice(), PIECE) {
+    match read(alloc, origin, bytes.as_slice(), size) {
         Ok(records) => push_number(b"  records ", records.as_slice().len(), &mut told)?,
         Err(fault) => push_fault(&mut told, &fault)?,
     }
