@@ -1,6 +1,6 @@
 -- What a reader was fed (this project's own).
 use Rattle.std.specs.Prelude.{ℕ, List, Option}
-use Rattle.naptr_data.specs.Zones.{Labels}
+use Rattle.dns_name.specs.Name.{Labels}
 use Rattle.zone_text.specs.declared.fault.TextFault.{TextFault}
 
 -- the origin of a text, the text so far, and the fault that was told
