@@ -4,7 +4,7 @@ use Rattle.std.specs.Prelude.{◌≡◌, ◌⊎◌, ℕ, ◌+◌, ◌-◌, ◌<�
 use Rattle.enum_base.specs.Stages.{Then}
 use Rattle.dns_name.specs.Wire.{StandsAt}
 use Rattle.rdata_field.specs.Strings.{string_wire}
-use Rattle.rdata_field.specs.Fields.{StandsWithin, U16In, TextIsCut, NameIn, EndsIn}
+use Rattle.rdata_field.specs.Fields.{StandsWithin, U16In, U32In, AddressIn, TextIsCut, NameIn, EndsIn}
 use Rattle.naptr_rule.specs.Fields.{RuleIn}
 use Rattle.rdata_field.specs.declared.in_fault.InFault.{InFault}
 use Rattle.rdata_field.specs.declared.in_fault.InFault.TheVariants.{Shape}
