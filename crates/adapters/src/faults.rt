@@ -1,8 +1,10 @@
-//! Counts of faults.
+//! Counts of faults, and what answers of the system say of them.
 ghost use Rattle.std.specs.Prelude.{◌≡◌, ◌≤◌};
-ghost use Rattle.enum_base.specs.Causes.{one_more};
+ghost use Rattle.enum_base.specs.Causes.{HasCause, one_more};
+ghost use Rattle.adapters.specs.Saying.{passed_on};
 
 use enum_base::Failed;
+use std::io;
 use std::marker::Model;
 
 /// How many calls of an object failed; it stays at its greatest value.
@@ -41,5 +43,16 @@ impl Faults {
     {
         self.count = self.count.saturating_add(1);
         Failed
+    }
+
+    /// Passes on what the system answered. Each error is counted, that of an interrupted call too.
+    pub(crate) fn pass<T: Drop>(&mut self, answer: io::Result<T>) -> Result<T, Failed>
+        ensures passed { result ≡ passed_on answer }
+        ensures cause { HasCause self.old self.new result }
+    {
+        match answer {
+            Ok(answer) => Ok(answer),
+            Err(_) => Err(self.raise()),
+        }
     }
 }
