@@ -1,7 +1,7 @@
 -- The content of RDATA comes to one thing, and in a list of bytes to something.
 use Rattle.std.proofs.Common.{◌≡◌, ℕ, ◌+◌, ◌≤◌, List, length, Result, Ok, sym, ap, subst, inl, inr, arith}
 use Rattle.std.specs.List.{AllByRecursion}
-use Rattle.enum_base.proofs.StageLaws.{IsSingle, IsTotal, IsSingle-is, IsTotal-is, IsSingle-then, IsTotal-then}
+use Rattle.enum_base.proofs.StageLemmas.{IsSingle, IsTotal, IsSingle-is, IsTotal-is, IsSingle-then, IsTotal-then}
 use Rattle.dns_name.specs.Name.{IsByte}
 use Rattle.rdata_field.specs.Fields.{NameIn, U32In, AddressIn}
 use Rattle.rdata_field.specs.declared.in_fault.InFault.{InFault}

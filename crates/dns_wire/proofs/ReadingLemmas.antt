@@ -3,7 +3,7 @@ use Rattle.std.proofs.Common.{◌≡◌, ◌⊎◌, ℕ, zero, suc, ◌+◌, ◌
 use Rattle.std.proofs.Math.Bool.{Bool-set}
 use Rattle.std.specs.List.{AllByRecursion}
 use Rattle.enum_base.specs.Stages.Then.{goes, stops}
-use Rattle.enum_base.proofs.StageLaws.{IsSingle, IsTotal, IsSingle-is, IsTotal-is, IsSingle-then, IsTotal-then}
+use Rattle.enum_base.proofs.StageLemmas.{IsSingle, IsTotal, IsSingle-is, IsTotal-is, IsSingle-then, IsTotal-then}
 use Rattle.dns_name.specs.Name.{IsByte}
 use Rattle.dns_name.proofs.FoundLemmas.{Found, name_or_fault}
 use Rattle.dns_name.proofs.ReadLemmas.{one_name, one_fault, not_both}

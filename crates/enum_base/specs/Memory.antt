@@ -1,5 +1,6 @@
 -- Shelves, sources and sinks in memory, which tell all that they hold and fail at listed calls (this project's own).
-use Rattle.std.specs.Prelude.{◌≡◌, ◌↔◌, ℕ, ◌<◌, ◌≤◌, min, List, [], length, Contains, slice_get, unwrap_or, option_map, Option, Some, None, ⊤, Result, IsErr, IfOk, OnErr}
+use Rattle.std.specs.Prelude.{◌≡◌, ◌↔◌, ℕ, ◌<◌, ◌≤◌, min, List, [], length, Contains, slice_get, unwrap_or, option_map}
+use Rattle.std.specs.Prelude.{Option, Some, None, ⊤, Result, IsErr, IfOk, OnErr}
 use Rattle.enum_base.specs.Causes.{one_more}
 use Rattle.enum_base.specs.Outside.{File}
 

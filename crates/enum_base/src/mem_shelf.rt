@@ -1,5 +1,6 @@
 //! A shelf in memory.
-ghost use Rattle.std.specs.Prelude.{◌≡◌, ◌↔◌, ◌<◌, ◌≤◌, max, [], ◌∷◌, ◌++◌, take, drop, length, position, bytes_eq, Contains, Option, Some, None, IsSome, unwrap_or, IsErr, IfOk, OnOk, OnErr};
+ghost use Rattle.std.specs.Prelude.{◌≡◌, ◌↔◌, ◌<◌, ◌≤◌, max, [], ◌∷◌, ◌++◌, take, drop, length, position, bytes_eq};
+ghost use Rattle.std.specs.Prelude.{Contains, Option, Some, None, IsSome, unwrap_or, IsErr, IfOk, OnOk, OnErr};
 ghost use Rattle.enum_base.specs.Causes.{HasCause, many_more, one_more};
 ghost use Rattle.enum_base.specs.Outside.{Finds, Opens, AreFirst, EndsAtEnd, after, file_of};
 ghost use Rattle.enum_base.specs.Memory.{ReadsListed, chosen_bytes, IsPlace};
@@ -107,7 +108,8 @@ impl Shelf for MemShelf {
         ensures greatest { OnOk result (self.new.most_given ≡ max self.old.most_given self.new.given) }
         ensures ends { IfOk result (λ n. 0 < length buf.new → EndsAtEnd n (Some self.old.left)) }
         ensures cause { HasCause self.old.faults self.new.faults result }
-        ensures reads { ReadsListed self.old.failing self.old.calls self.new.calls self.old.faults self.new.faults self.old.left self.new.left (length buf.new) result }
+        ensures reads { ReadsListed self.old.failing self.old.calls self.new.calls self.old.faults self.new.faults
+            self.old.left self.new.left (length buf.new) result }
         ensures failing { self.new.failing ≡ self.old.failing }
     {
         self.calls.begin()?;

@@ -57,7 +57,8 @@ impl Source for MemSource {
         ensures untold { Some self.old.left ≡ None → Some self.new.left ≡ None }
         ensures ends { IfOk result (λ n. 0 < length buf.new → EndsAtEnd n (Some self.old.left)) }
         ensures cause { HasCause self.old.faults self.new.faults result }
-        ensures reads { ReadsListed self.old.failing self.old.calls self.new.calls self.old.faults self.new.faults self.old.left self.new.left (length buf.new) result }
+        ensures reads { ReadsListed self.old.failing self.old.calls self.new.calls self.old.faults self.new.faults
+            self.old.left self.new.left (length buf.new) result }
         ensures failing { self.new.failing ≡ self.old.failing }
     {
         self.calls.begin()?;

@@ -30,7 +30,8 @@ pub trait Shelf {
         ensures left { IfOk result (λ n. (state self.new).left ≡ after n (state self.old).left) }
         ensures untold { (state self.old).left ≡ None → (state self.new).left ≡ None }
         ensures counts { IfOk result (λ n. (state self.new).given ≡ many_more (state self.old).given n) }
-        ensures uncounted { OnErr result (((state self.new).given ≡ (state self.old).given) × ((state self.new).most_given ≡ (state self.old).most_given)) }
+        ensures uncounted { OnErr result (((state self.new).given ≡ (state self.old).given)
+            × ((state self.new).most_given ≡ (state self.old).most_given)) }
         ensures greatest { OnOk result ((state self.new).most_given ≡ max (state self.old).most_given (state self.new).given) }
         ensures ends { IfOk result (λ n. 0 < length buf.new → EndsAtEnd n (state self.old).left) }
         ensures cause { HasCause (state self.old).faults (state self.new).faults result };

@@ -3,7 +3,7 @@ use Rattle.std.proofs.Common.{◌≡◌, ◌⊎◌, ℕ, zero, suc, ◌+◌, ◌
 use Rattle.std.proofs.lemmas.Bool.Decides.{nat_tests}
 use Rattle.std.proofs.lemmas.List.{get_or_past}
 use Rattle.std.specs.List.{AllByRecursion, flat_map}
-use Rattle.enum_base.proofs.StageLaws.{IsSingle, IsTotal}
+use Rattle.enum_base.proofs.StageLemmas.{IsSingle, IsTotal}
 use Rattle.dns_name.specs.Name.{IsLabel, IsName, IsByte, label_wire, wire_of}
 use Rattle.dns_name.specs.Wire.{StandsAt, Field, Leads, labels_in, after_pointer, NameAt, Reaches, IsCut, NameBreaks, by_label, by_pointer}
 use Rattle.dns_name.specs.declared.wire_fault.WireFault.{WireFault}

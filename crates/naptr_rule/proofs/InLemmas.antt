@@ -1,7 +1,7 @@
 -- Rules come to one thing each, and in a list of bytes to something.
 use Rattle.std.proofs.Common.{ℕ, ◌≤◌, List, length, Result, Ok}
 use Rattle.std.specs.List.{AllByRecursion}
-use Rattle.enum_base.proofs.StageLaws.{IsSingle, IsTotal, IsSingle-is, IsTotal-is, IsSingle-then, IsTotal-then}
+use Rattle.enum_base.proofs.StageLemmas.{IsSingle, IsTotal, IsSingle-is, IsTotal-is, IsSingle-then, IsTotal-then}
 use Rattle.dns_name.specs.Name.{IsByte}
 use Rattle.rdata_field.specs.Fields.{NameIn}
 use Rattle.rdata_field.specs.declared.in_fault.InFault.TheVariants.{Shape}

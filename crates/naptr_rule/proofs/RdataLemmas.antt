@@ -7,7 +7,7 @@ use Rattle.std.specs.List.{AllByRecursion}
 use Rattle.std.specs.Result.{IsErrAnd}
 use Rattle.enum_base.specs.Stages.{Then}
 use Rattle.enum_base.specs.Stages.Then.{goes, stops}
-use Rattle.enum_base.proofs.StageLaws.{IsSingle, IsTotal}
+use Rattle.enum_base.proofs.StageLemmas.{IsSingle, IsTotal}
 use Rattle.dns_name.specs.Name.{IsByte, IsName, wire_of}
 use Rattle.dns_name.specs.Wire.{StandsAt}
 use Rattle.rdata_field.specs.Strings.{string_wire}

@@ -2,7 +2,7 @@
 use Rattle.std.proofs.Common.{◌≡◌, ◌↔◌, ◌⊎◌, ℕ, suc, ◌+◌, ◌<◌, ◌≤◌, List, [], ◌∷◌, length, take, drop, get_or, Result, Ok, Err, refl, sym, ◌∙◌, ap, subst, inl, inr, arith, length-drop}
 use Rattle.std.proofs.lemmas.List.{length-take}
 use Rattle.std.specs.List.{AllByRecursion}
-use Rattle.enum_base.proofs.StageLaws.{IsSingle, IsTotal}
+use Rattle.enum_base.proofs.StageLemmas.{IsSingle, IsTotal}
 use Rattle.dns_name.specs.Name.{IsByte}
 use Rattle.dns_name.specs.Wire.{StandsAt, NameWithin, WithinBreaks}
 use Rattle.dns_name.specs.declared.wire_fault.WithinFault.{WithinFault}
