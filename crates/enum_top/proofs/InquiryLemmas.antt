@@ -1,7 +1,7 @@
 -- What is asked, stage by stage.
 use Rattle.std.proofs.Common.{◌≡◌, inl, inr, ℕ, List, Option, Some, None, option_map, Result, Ok, Err, refl, sym, ap, subst, ◌∙◌}
 use Rattle.enum_app.specs.Number.{digits_of}
-use Rattle.enum_app.proofs.NumberFaults.{no_fault, one_fault}
+use Rattle.enum_app.proofs.NumberFaultsLemmas.{no_fault, one_fault}
 use Rattle.naptr_data.specs.Zones.{Labels}
 use Rattle.service_field.specs.Wanted.{wanted_text}
 use Rattle.service_field.specs.declared.fault.ServiceFault.{ServiceFault}
