@@ -5,8 +5,8 @@ ghost use Rattle.enum_top.specs.Inputs.{Inputs};
 ghost use Rattle.enum_top.specs.Running.{DoesOnInput};
 
 use crate::cause::Cause;
-use crate::why::Why;
 use crate::objects::Object;
+use crate::why::Why;
 use enum_base::{Bytes, LoadFault, Source, load};
 use std::alloc::Global;
 

@@ -23,7 +23,10 @@ pub(crate) struct Inquiry<'a> {
 
 /// Reads what the words ask: the string, the wanted list, the apex and the domain, of which the first that is
 /// ill-formed is told. Takes no memory.
-pub(crate) fn read_inquiry<'a>(words: &'a [String], asked: &Resolution) -> Result<Inquiry<'a>, Cause>
+pub(crate) fn read_inquiry<'a>(
+    words: &'a [String],
+    asked: &Resolution,
+) -> Result<Inquiry<'a>, Cause>
     ensures { Asks (texts_of words.now) asked.now.app asked.now.string asked.now.want asked.now.apex (inquiry_in result) }
 {
     match asked.app {

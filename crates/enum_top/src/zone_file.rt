@@ -9,8 +9,8 @@ ghost use Rattle.enum_top.specs.Running.{DoesAlone, DoesOnShelf, LeftText, Refus
 ghost use Rattle.enum_top.specs.ZoneFiles.{TextAt, Texts};
 
 use crate::cause::Cause;
-use crate::why::Why;
 use crate::objects::Object;
+use crate::why::Why;
 use dns_name::Name;
 use dns_wire::Records;
 use enum_base::Shelf;

@@ -8,8 +8,8 @@ ghost use Rattle.enum_top.specs.Running.{DoesAlone, DoesOnShelf, zones_after};
 ghost use Rattle.enum_top.specs.ZoneFiles.{Adds, Builds, ZoneAt, ZonesOf};
 
 use crate::cause::Cause;
-use crate::why::Why;
 use crate::objects::Object;
+use crate::why::Why;
 use crate::zone_file::read_text;
 use dns_wire::Records;
 use enum_base::Shelf;

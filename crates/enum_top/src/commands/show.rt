@@ -6,9 +6,9 @@ ghost use Rattle.enum_top.specs.Showing.{Digits, Hexes, Messages, Shows, digits_
 
 use crate::cause::Cause;
 use crate::input::read_input;
-use crate::why::Why;
 use crate::objects::Object;
 use crate::status::{Ending, Printed};
+use crate::why::Why;
 use dns_wire::{DecodeFault, Message, decode};
 use enum_base::{Bytes, MemoryFault, Source};
 use hex::FromHexError;
