@@ -42,7 +42,7 @@ abbrev pub IsContent : Content → Type 0
 IsContent (content.A address) = (length address ≡ 4) × AreBytes address
 IsContent (content.Ns server) = IsName server
 IsContent (content.Cname target) = IsName target
-IsContent (content.Soa start) = IsSoa start
+IsContent (content.Soa fields) = IsSoa fields
 IsContent (content.Ptr name) = IsName name
 IsContent (content.Mx preference exchange) = IsU16 preference × IsName exchange
 IsContent (content.Txt texts) = AllByRecursion IsText texts

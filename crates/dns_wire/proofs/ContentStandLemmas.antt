@@ -15,7 +15,7 @@ use Rattle.dns_wire.specs.declared.content.Content.TheVariants as content
 use Rattle.dns_wire.specs.declared.form.Form.{Form}
 use Rattle.dns_wire.specs.declared.form.Form.TheVariants as form
 use Rattle.dns_wire.proofs.StandLemmas.{stands-append}
-use Rattle.dns_wire.proofs.FieldStands.{U16In-stands, AddressIn-stands, NameIn-stands, RuleIn-stands, TextsIn-stands, SoaIn-stands}
+use Rattle.dns_wire.proofs.FieldStandLemmas.{U16In-stands, AddressIn-stands, NameIn-stands, RuleIn-stands, TextsIn-stands, SoaIn-stands}
 
 both_true : (x y : Bool) → (x && y) ≡ true → (x ≡ true) × (y ≡ true)
 both_true true true h = (refl, refl)
@@ -27,7 +27,8 @@ not_true true h = absurd (cc h)
 not_true false h = refl
 
 -- the form of the kind that content belongs to
-form_of_kind : (kind class number : ℕ) (wanted : Form) → form_of number internet ≡ wanted → IsTrue (kind == number && class == internet) → form_of kind class ≡ wanted
+form_of_kind : (kind class number : ℕ) (wanted : Form) → form_of number internet ≡ wanted
+    → IsTrue (kind == number && class == internet) → form_of kind class ≡ wanted
 form_of_kind kind class number wanted is h =
     let both = both_true (kind == number) (class == internet) h in
     let k : kind ≡ number = eqb-true kind number both.0 in
@@ -44,7 +45,8 @@ form_of_options kind class fits h =
     ap (λ k. form_of k class) k
 
 -- none of ten kinds
-no_kind : (x1 x2 x3 x4 x5 x6 x7 x8 x9 x10 : Bool) → (x1 || x2 || x3 || x4 || x5 || x6 || x7 || x8 || x9 || x10) ≡ false → (if x1 then form.A else if x2 then form.Ns else if x3 then form.Cname else if x4 then form.Soa else if x5 then form.Ptr else if x6 then form.Mx else if x7 then form.Txt else if x8 then form.Aaaa else if x9 then form.Srv else if x10 then form.Naptr else form.Raw) ≡ form.Raw
+no_kind : (x1 x2 x3 x4 x5 x6 x7 x8 x9 x10 : Bool) → (x1 || x2 || x3 || x4 || x5 || x6 || x7 || x8 || x9 || x10) ≡ false
+    → (if x1 then form.A else if x2 then form.Ns else if x3 then form.Cname else if x4 then form.Soa else if x5 then form.Ptr else if x6 then form.Mx else if x7 then form.Txt else if x8 then form.Aaaa else if x9 then form.Srv else if x10 then form.Naptr else form.Raw) ≡ form.Raw
 no_kind true x2 x3 x4 x5 x6 x7 x8 x9 x10 h = absurd (cc h)
 no_kind false true x3 x4 x5 x6 x7 x8 x9 x10 h = absurd (cc h)
 no_kind false false true x4 x5 x6 x7 x8 x9 x10 h = absurd (cc h)
@@ -58,7 +60,8 @@ no_kind false false false false false false false false false true h = absurd (c
 no_kind false false false false false false false false false false h = refl
 
 -- neither options nor a kind that is read
-no_form : (x y read : Bool) (one : Form) → IsTrue (not x && not (y && read)) → (read ≡ false → one ≡ form.Raw) → (if x then form.Opt else if y then one else form.Raw) ≡ form.Raw
+no_form : (x y read : Bool) (one : Form) → IsTrue (not x && not (y && read)) → (read ≡ false → one ≡ form.Raw)
+    → (if x then form.Opt else if y then one else form.Raw) ≡ form.Raw
 no_form true y read one h raw = absurd (cc h)
 no_form false true true one h raw = absurd (cc h)
 no_form false true false one h raw = raw refl
@@ -74,7 +77,7 @@ form_of_content : Content → Form
 form_of_content (content.A address) = form.A
 form_of_content (content.Ns server) = form.Ns
 form_of_content (content.Cname target) = form.Cname
-form_of_content (content.Soa start) = form.Soa
+form_of_content (content.Soa fields) = form.Soa
 form_of_content (content.Ptr name) = form.Ptr
 form_of_content (content.Mx preference exchange) = form.Mx
 form_of_content (content.Txt texts) = form.Txt
@@ -89,7 +92,7 @@ unfolding form_of_content
 form_of-belongs kind class (content.A address) h = form_of_kind kind class a form.A refl h
 form_of-belongs kind class (content.Ns server) h = form_of_kind kind class ns form.Ns refl h
 form_of-belongs kind class (content.Cname target) h = form_of_kind kind class cname form.Cname refl h
-form_of-belongs kind class (content.Soa start) h = form_of_kind kind class soa form.Soa refl h
+form_of-belongs kind class (content.Soa fields) h = form_of_kind kind class soa form.Soa refl h
 form_of-belongs kind class (content.Ptr name) h = form_of_kind kind class ptr form.Ptr refl h
 form_of-belongs kind class (content.Mx preference exchange) h = form_of_kind kind class mx form.Mx refl h
 form_of-belongs kind class (content.Txt texts) h = form_of_text kind class (nat_lt 0 (length texts)) h
@@ -104,16 +107,22 @@ some_texts kind class texts h =
     ltb-true 0 (length texts) (both_true (kind == txt && class == internet) (nat_lt 0 (length texts)) h).1
 
 -- bytes that stand between two places
-between : (message : List ℕ) (from to : ℕ) (bytes : List ℕ) → to ≡ from + length bytes → StandsAt message from bytes → bytes ≡ take (to - from) (drop from message)
+between : (message : List ℕ) (from to : ℕ) (bytes : List ℕ) → to ≡ from + length bytes → StandsAt message from bytes
+    → bytes ≡ take (to - from) (drop from message)
 between message from to bytes end h =
     let size : length bytes ≡ to - from = omega arith in
     sym h ∙ ap (λ n. take n (drop from message)) size
 
-srv-stands : (message : List ℕ) (from to priority weight port : ℕ) (target : List (List ℕ)) → IsContent (content.Srv priority weight port target) → to ≡ from + length (rdata_of (content.Srv priority weight port target)) → StandsAt message from (rdata_of (content.Srv priority weight port target)) → ContentIn form.Srv message from to (Ok (content.Srv priority weight port target))
+srv-stands : (message : List ℕ) (from to priority weight port : ℕ) (target : List (List ℕ))
+    → IsContent (content.Srv priority weight port target)
+    → to ≡ from + length (rdata_of (content.Srv priority weight port target))
+    → StandsAt message from (rdata_of (content.Srv priority weight port target))
+    → ContentIn form.Srv message from to (Ok (content.Srv priority weight port target))
 srv-stands message from to priority weight port target is end h =
     let name = wire_of target in
     let P : List ℕ → Type 0 = StandsAt message from in
-    let parts : rdata_of (content.Srv priority weight port target) ≡ to_be_bytes w16 priority ++ (to_be_bytes w16 weight ++ (to_be_bytes w16 port ++ name)) = simp append_assoc in
+    let parts : rdata_of (content.Srv priority weight port target) ≡ to_be_bytes w16 priority
+    ++ (to_be_bytes w16 weight ++ (to_be_bytes w16 port ++ name)) = simp append_assoc in
     let p = stands-append message from (to_be_bytes w16 priority) (to_be_bytes w16 weight ++ (to_be_bytes w16 port ++ name)) 2 refl (subst P parts h) in
     let q = stands-append message (from + 2) (to_be_bytes w16 weight) (to_be_bytes w16 port ++ name) 2 refl p.1 in
     let r = stands-append message (from + 2 + 2) (to_be_bytes w16 port) name 2 refl q.1 in
@@ -123,7 +132,10 @@ srv-stands message from to priority weight port target is end h =
     goes (port, from + 2 + 2 + 2) (U16In-stands message to (from + 2 + 2) port is.2 (omega arith) r.0) (
     goes target (goes (target, from + 2 + 2 + 2 + length name) (NameIn-stands message to (from + 2 + 2 + 2) target is.3 (omega arith) r.1) (inl (all, refl))) refl)))
 
-mx-stands : (message : List ℕ) (from to preference : ℕ) (exchange : List (List ℕ)) → IsContent (content.Mx preference exchange) → to ≡ from + length (rdata_of (content.Mx preference exchange)) → StandsAt message from (rdata_of (content.Mx preference exchange)) → ContentIn form.Mx message from to (Ok (content.Mx preference exchange))
+mx-stands : (message : List ℕ) (from to preference : ℕ) (exchange : List (List ℕ))
+    → IsContent (content.Mx preference exchange) → to ≡ from + length (rdata_of (content.Mx preference exchange))
+    → StandsAt message from (rdata_of (content.Mx preference exchange))
+    → ContentIn form.Mx message from to (Ok (content.Mx preference exchange))
 mx-stands message from to preference exchange is end h =
     let name = wire_of exchange in
     let p = stands-append message from (to_be_bytes w16 preference) name 2 refl h in
@@ -132,7 +144,9 @@ mx-stands message from to preference exchange is end h =
     goes exchange (goes (exchange, from + 2 + length name) (NameIn-stands message to (from + 2) exchange is.1 (omega arith) p.1) (inl (all, refl))) refl)
 
 -- content of its form
-ContentIn-form : (message : List ℕ) (from to kind class : ℕ) (what : Content) → IsContent what → IsTrue (belongs kind class what) → to ≡ from + length (rdata_of what) → StandsAt message from (rdata_of what) → ContentIn (form_of_content what) message from to (Ok what)
+ContentIn-form : (message : List ℕ) (from to kind class : ℕ) (what : Content) → IsContent what
+    → IsTrue (belongs kind class what) → to ≡ from + length (rdata_of what) → StandsAt message from (rdata_of what)
+    → ContentIn (form_of_content what) message from to (Ok what)
 unfolding form_of_content
 ContentIn-form message from to kind class (content.A address) is own end h =
     let size = is.0 in
@@ -142,8 +156,8 @@ ContentIn-form message from to kind class (content.Ns name) is own end h =
     goes name (goes (name, from + length (wire_of name)) (NameIn-stands message to from name is (omega arith) h) (inl (sym end, refl))) refl
 ContentIn-form message from to kind class (content.Cname name) is own end h =
     goes name (goes (name, from + length (wire_of name)) (NameIn-stands message to from name is (omega arith) h) (inl (sym end, refl))) refl
-ContentIn-form message from to kind class (content.Soa start) is own end h =
-    goes start (goes (start, to) (SoaIn-stands message from to start is end h) (inl (refl, refl))) refl
+ContentIn-form message from to kind class (content.Soa fields) is own end h =
+    goes fields (goes (fields, to) (SoaIn-stands message from to fields is end h) (inl (refl, refl))) refl
 ContentIn-form message from to kind class (content.Ptr name) is own end h =
     goes name (goes (name, from + length (wire_of name)) (NameIn-stands message to from name is (omega arith) h) (inl (sym end, refl))) refl
 ContentIn-form message from to kind class (content.Mx preference exchange) is own end h = mx-stands message from to preference exchange is end h
@@ -160,6 +174,8 @@ ContentIn-form message from to kind class (content.Opt options) is own end h = a
 ContentIn-form message from to kind class (content.Raw bytes) is own end h = ap (λ bytes. Ok (content.Raw bytes)) (between message from to bytes end h)
 
 -- the RDATA of content that belongs to a kind and a class is read as that content
-pub ContentIn-stands : (message : List ℕ) (from to kind class : ℕ) (what : Content) → IsContent what → IsTrue (belongs kind class what) → to ≡ from + length (rdata_of what) → StandsAt message from (rdata_of what) → ContentIn (form_of kind class) message from to (Ok what)
+pub ContentIn-stands : (message : List ℕ) (from to kind class : ℕ) (what : Content) → IsContent what
+    → IsTrue (belongs kind class what) → to ≡ from + length (rdata_of what) → StandsAt message from (rdata_of what)
+    → ContentIn (form_of kind class) message from to (Ok what)
 ContentIn-stands message from to kind class what is own end h =
     subst (λ (f : Form). ContentIn f message from to (Ok what)) (sym (form_of-belongs kind class what own)) (ContentIn-form message from to kind class what is own end h)

@@ -17,7 +17,7 @@ use Rattle.dns_wire.specs.declared.question.Question.{Question}
 use Rattle.dns_wire.specs.declared.record.Record.{Record}
 use Rattle.dns_wire.specs.declared.message.Message.{Message}
 use Rattle.dns_wire.proofs.StandLemmas.{stands-whole, stands-append, NameAt-wire_of}
-use Rattle.dns_wire.proofs.ContentStands.{ContentIn-stands}
+use Rattle.dns_wire.proofs.ContentStandLemmas.{ContentIn-stands}
 
 U16At-stands : (message : List ℕ) (at value : ℕ) → value < 2 ^ 16 → StandsAt message at (to_be_bytes w16 value) → U16At message at (Ok (value, at + 2))
 U16At-stands message at value small h = inl (value, small, (h, (stands message at _ _ h).inside), refl)
@@ -25,10 +25,13 @@ U16At-stands message at value small h = inl (value, small, (h, (stands message a
 U32At-stands : (message : List ℕ) (at value : ℕ) → value < 2 ^ 32 → StandsAt message at (to_be_bytes w32 value) → U32At message at (Ok (value, at + 4))
 U32At-stands message at value small h = inl (value, small, (h, (stands message at _ _ h).inside), refl)
 
-NameRead-stands : (message : List ℕ) (at : ℕ) (labels : List (List ℕ)) → IsName labels → StandsAt message at (wire_of labels) → NameRead message at (Ok (labels, at + length (wire_of labels)))
+NameRead-stands : (message : List ℕ) (at : ℕ) (labels : List (List ℕ)) → IsName labels
+    → StandsAt message at (wire_of labels) → NameRead message at (Ok (labels, at + length (wire_of labels)))
 NameRead-stands message at labels name h = inl (labels, at + length (wire_of labels), NameAt-wire_of message at labels name h, refl)
 
-QuestionAt-stands : (message : List ℕ) (at : ℕ) (question : Question) → IsQuestion question → StandsAt message at (question_wire question) → QuestionAt message at (Ok (question, at + length (question_wire question)))
+QuestionAt-stands : (message : List ℕ) (at : ℕ) (question : Question) → IsQuestion question
+    → StandsAt message at (question_wire question)
+    → QuestionAt message at (Ok (question, at + length (question_wire question)))
 QuestionAt-stands message at question is h =
     let name = wire_of question.name in
     let kind = to_be_bytes w16 question.kind in
@@ -37,13 +40,15 @@ QuestionAt-stands message at question is h =
     let parts : question_wire question ≡ name ++ (kind ++ class) = append_assoc name kind class in
     let a = stands-append message at name (kind ++ class) (length name) refl (subst P parts h) in
     let b = stands-append message (at + length name) kind class 2 refl a.1 in
-    let end : at + length (question_wire question) ≡ at + length name + 2 + 2 = ap (λ bytes. at + length bytes) parts ∙ omega (arith, length-append name (kind ++ class)) in
+    let end : at + length (question_wire question) ≡ at + length name + 2 + 2 = ap (λ bytes. at + length bytes) parts
+    ∙ omega (arith, length-append name (kind ++ class)) in
     goes (question.name, at + length name) (NameRead-stands message at question.name is.name a.0) (
     goes (question.kind, at + length name + 2) (U16At-stands message (at + length name) question.kind is.kind b.0) (
     goes (question.class, at + length name + 2 + 2) (U16At-stands message (at + length name + 2) question.class is.class b.1)
     (ap (λ place. Ok (question, place)) end)))
 
-RecordAt-stands : (message : List ℕ) → length message ≤ 65_535 → (at : ℕ) (one : Record) → IsRecord one → StandsAt message at (record_wire one) → RecordAt message at (Ok (one, at + length (record_wire one)))
+RecordAt-stands : (message : List ℕ) → length message ≤ 65_535 → (at : ℕ) (one : Record) → IsRecord one
+    → StandsAt message at (record_wire one) → RecordAt message at (Ok (one, at + length (record_wire one)))
 RecordAt-stands message short at one is h =
     let owner = wire_of one.owner in
     let kind = to_be_bytes w16 one.kind in
@@ -62,7 +67,8 @@ RecordAt-stands message short at one is h =
     let inside = (stands message place _ _ d.1).inside in
     let room : place + 2 + length rdata ≤ length message = omega arith in
     let small : length rdata < 2 ^ 16 = omega arith in
-    let end : at + length (record_wire one) ≡ place + 2 + length rdata = ap (λ bytes. at + length bytes) parts ∙ omega (arith, length-append owner (kind ++ (class ++ (ttl ++ (size ++ rdata))))) in
+    let end : at + length (record_wire one) ≡ place + 2 + length rdata = ap (λ bytes. at + length bytes) parts
+    ∙ omega (arith, length-append owner (kind ++ (class ++ (ttl ++ (size ++ rdata))))) in
     goes (one.owner, at + length owner) (NameRead-stands message at one.owner is.owner a.0) (
     goes (one.kind, at + length owner + 2) (U16At-stands message (at + length owner) one.kind is.kind b.0) (
     goes (one.class, at + length owner + 2 + 2) (U16At-stands message (at + length owner + 2) one.class is.class c.0) (
@@ -72,7 +78,10 @@ RecordAt-stands message short at one is h =
     (one.belongs, ap (λ n. Ok (one, n)) end))))))
 
 -- items that stand one after another are read as such, if each is
-ItemsAt-stands : {A F : Type 0} (message : List ℕ) (one : ℕ → Result (A × ℕ) F → Type 0) (wire : A → List ℕ) (Fits : A → Type 0) → ((at : ℕ) (item : A) → Fits item → StandsAt message at (wire item) → one at (Ok (item, at + length (wire item)))) → (at : ℕ) (items : List A) → AllByRecursion Fits items → StandsAt message at (flat_map wire items) → ItemsAt one (length items) at (Ok (items, at + length (flat_map wire items)))
+ItemsAt-stands : {A F : Type 0} (message : List ℕ) (one : ℕ → Result (A × ℕ) F → Type 0) (wire : A → List ℕ) (Fits : A → Type 0)
+    → ((at : ℕ) (item : A) → Fits item → StandsAt message at (wire item) → one at (Ok (item, at + length (wire item))))
+    → (at : ℕ) (items : List A) → AllByRecursion Fits items → StandsAt message at (flat_map wire items)
+    → ItemsAt one (length items) at (Ok (items, at + length (flat_map wire items)))
 ItemsAt-stands message one wire Fits read at [] each h =
     let end : at + 0 ≡ at = omega arith in ap (λ n. Ok ([], n)) end
 ItemsAt-stands message one wire Fits read at (item ∷ items) each h =
@@ -104,9 +113,12 @@ counted message =
 -- the parts of a message
 sections : Message → List ℕ
 sections message =
-    flat_map question_wire message.questions ++ (flat_map record_wire message.answers ++ (flat_map record_wire message.authority ++ flat_map record_wire message.additional))
+    flat_map question_wire message.questions
+    ++ (flat_map record_wire message.answers ++ (flat_map record_wire message.authority ++ flat_map record_wire message.additional))
 
-HeaderAt-stands : (message : Message) → IsMessage message → (bytes rest : List ℕ) → bytes ≡ header_wire message.header (counts_of message) ++ rest → HeaderAt bytes (Ok (message.header, counts_of message)) × StandsAt bytes 12 rest
+HeaderAt-stands : (message : Message) → IsMessage message → (bytes rest : List ℕ)
+    → bytes ≡ header_wire message.header (counts_of message) ++ rest
+    → HeaderAt bytes (Ok (message.header, counts_of message)) × StandsAt bytes 12 rest
 HeaderAt-stands message is bytes rest whole =
     let counts = counts_of message in
     let fit = counted message in

@@ -2,7 +2,7 @@ use Rattle.std.proofs.Common.{◌≡◌, [], refl, ap, arith, length, take, drop
 use Rattle.dns_name.proofs.ReadLemmas.{reaches-start}
 use Rattle.dns_name.proofs.CodeLemmas.{root-wire, root-name, label-step, pointer-step}
 use Rattle.dns_name.proofs.TargetLemmas.{hops-of, target-low, chain-step, smaller}
-use Rattle.dns_name.proofs.wire.read.Goals as goal
+use Rattle.dns_name.proofs.wire.read_inner.Goals as goal
 
 pub fields-init : goal.fields-init
 unfolding reaches-start

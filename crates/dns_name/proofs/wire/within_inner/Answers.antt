@@ -1,5 +1,5 @@
 use Rattle.dns_name.proofs.WithinLemmas.{before_place}
-use Rattle.dns_name.proofs.wire.within.Goals as goal
+use Rattle.dns_name.proofs.wire.within_inner.Goals as goal
 
 pub returns-in-Ok : goal.returns-in-Ok
 returns-in-Ok c =

@@ -16,23 +16,30 @@ use Rattle.dns_wire.specs.Contents.{TextsStand, TextsIn, SoaIn}
 use Rattle.dns_wire.specs.declared.content.Soa.{Soa}
 use Rattle.dns_wire.proofs.StandLemmas.{stands-append, NameAt-wire_of}
 
-pub U16In-stands : (message : List ℕ) (to at value : ℕ) → value < 2 ^ 16 → at + 2 ≤ to → StandsAt message at (to_be_bytes w16 value) → U16In message to at (Ok (value, at + 2))
+pub U16In-stands : (message : List ℕ) (to at value : ℕ) → value < 2 ^ 16 → at + 2 ≤ to
+    → StandsAt message at (to_be_bytes w16 value) → U16In message to at (Ok (value, at + 2))
 U16In-stands message to at value small room h = inl (value, small, (h, room), refl)
 
-pub U32In-stands : (message : List ℕ) (to at value : ℕ) → value < 2 ^ 32 → at + 4 ≤ to → StandsAt message at (to_be_bytes w32 value) → U32In message to at (Ok (value, at + 4))
+pub U32In-stands : (message : List ℕ) (to at value : ℕ) → value < 2 ^ 32 → at + 4 ≤ to
+    → StandsAt message at (to_be_bytes w32 value) → U32In message to at (Ok (value, at + 4))
 U32In-stands message to at value small room h = inl (value, small, (h, room), refl)
 
-pub AddressIn-stands : (size : ℕ) (message : List ℕ) (to at : ℕ) (bytes : List ℕ) → length bytes ≡ size → at + size ≤ to → StandsAt message at bytes → AddressIn size message to at (Ok (bytes, at + size))
+pub AddressIn-stands : (size : ℕ) (message : List ℕ) (to at : ℕ) (bytes : List ℕ) → length bytes ≡ size → at + size ≤ to
+    → StandsAt message at bytes → AddressIn size message to at (Ok (bytes, at + size))
 AddressIn-stands size message to at bytes is room h = inl (bytes, is, (h, omega arith), refl)
 
-pub TextIn-stands : (message : List ℕ) (to at : ℕ) (text : List ℕ) → length text ≤ 255 → at + (length text + 1) ≤ to → StandsAt message at (string_wire text) → TextIn message to at (Ok (text, at + (length text + 1)))
+pub TextIn-stands : (message : List ℕ) (to at : ℕ) (text : List ℕ) → length text ≤ 255 → at + (length text + 1) ≤ to
+    → StandsAt message at (string_wire text) → TextIn message to at (Ok (text, at + (length text + 1)))
 TextIn-stands message to at text short room h = inl (text, short, (h, omega arith), refl)
 
-pub NameIn-stands : (message : List ℕ) (to at : ℕ) (labels : List (List ℕ)) → IsName labels → at + length (wire_of labels) ≤ to → StandsAt message at (wire_of labels) → NameIn message to at (Ok (labels, at + length (wire_of labels)))
+pub NameIn-stands : (message : List ℕ) (to at : ℕ) (labels : List (List ℕ)) → IsName labels
+    → at + length (wire_of labels) ≤ to → StandsAt message at (wire_of labels)
+    → NameIn message to at (Ok (labels, at + length (wire_of labels)))
 NameIn-stands message to at labels name room h =
     inl (labels, at + length (wire_of labels), (NameAt-wire_of message at labels name h, room), refl)
 
-pub RuleIn-stands : (message : List ℕ) (from to : ℕ) (rule : Naptr) → IsRule rule → to ≡ from + length (rdata rule) → StandsAt message from (rdata rule) → RuleIn message from to (Ok rule)
+pub RuleIn-stands : (message : List ℕ) (from to : ℕ) (rule : Naptr) → IsRule rule → to ≡ from + length (rdata rule)
+    → StandsAt message from (rdata rule) → RuleIn message from to (Ok rule)
 RuleIn-stands message from to rule is end h =
     let order = to_be_bytes w16 rule.order in
     let preference = to_be_bytes w16 rule.preference in
@@ -57,7 +64,9 @@ RuleIn-stands message from to rule is end h =
     goes (rule.regexp, last) (TextIn-stands message to (from + 2 + 2 + (length rule.flags + 1) + (length rule.services + 1)) rule.regexp is.regexp (omega arith) e.0) refl))))) (
     goes (rule.replacement, last + length name) (NameIn-stands message to last rule.replacement is.replacement (omega arith) e.1) (inl (all, refl)))
 
-pub TextsStand-stands : (message : List ℕ) (at to : ℕ) (texts : List (List ℕ)) → AllByRecursion IsText texts → to ≡ at + length (flat_map string_wire texts) → StandsAt message at (flat_map string_wire texts) → TextsStand message at texts to
+pub TextsStand-stands : (message : List ℕ) (at to : ℕ) (texts : List (List ℕ)) → AllByRecursion IsText texts
+    → to ≡ at + length (flat_map string_wire texts) → StandsAt message at (flat_map string_wire texts)
+    → TextsStand message at texts to
 TextsStand-stands message at to [] each end h = omega arith
 TextsStand-stands message at to (text ∷ texts) each end h =
     let more = flat_map string_wire texts in
@@ -65,10 +74,13 @@ TextsStand-stands message at to (text ∷ texts) each end h =
     let size : to ≡ at + (length text + 1) + length more = omega (arith, length-append (string_wire text) more) in
     (each.0.short, parts.0, TextsStand-stands message (at + (length text + 1)) to texts each.1 size parts.1)
 
-pub TextsIn-stands : (message : List ℕ) (from to : ℕ) (texts : List (List ℕ)) → AllByRecursion IsText texts → 0 < length texts → to ≡ from + length (flat_map string_wire texts) → StandsAt message from (flat_map string_wire texts) → TextsIn message from to (Ok texts)
+pub TextsIn-stands : (message : List ℕ) (from to : ℕ) (texts : List (List ℕ)) → AllByRecursion IsText texts
+    → 0 < length texts → to ≡ from + length (flat_map string_wire texts)
+    → StandsAt message from (flat_map string_wire texts) → TextsIn message from to (Ok texts)
 TextsIn-stands message from to texts each some end h = inl (texts, TextsStand-stands message from to texts each end h, some, refl)
 
-pub SoaIn-stands : (message : List ℕ) (from to : ℕ) (soa : Soa) → IsSoa soa → to ≡ from + length (soa_rdata soa) → StandsAt message from (soa_rdata soa) → SoaIn message to from (Ok (soa, to))
+pub SoaIn-stands : (message : List ℕ) (from to : ℕ) (soa : Soa) → IsSoa soa → to ≡ from + length (soa_rdata soa)
+    → StandsAt message from (soa_rdata soa) → SoaIn message to from (Ok (soa, to))
 SoaIn-stands message from to soa is end h =
     let mname = wire_of soa.mname in
     let rname = wire_of soa.rname in
