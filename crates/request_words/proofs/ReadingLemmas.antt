@@ -12,21 +12,28 @@ use Rattle.request_words.specs.declared.words.Usage.{Usage}
 use Rattle.request_words.proofs.RowLemmas.{found_only, found_row, row_meant, row_request}
 
 -- a request that is read by a row is meant
-by_row_meant : (row : Row) (words : List (List ℕ)) (request : Request) → Contains table row → text_at words 0 ≡ row.word → request_by row words ≡ Some request → Means words request
+by_row_meant : (row : Row) (words : List (List ℕ)) (request : Request) → Contains table row
+    → text_at words 0 ≡ row.word → request_by row words ≡ Some request → Means words request
 by_row_meant row words request listed same is = by_size (nat_le (size_of row) (length words)) refl is
   where
-    by_choices : (app : AppName) → size_of row ≤ length words → app_in (position is_app row.arguments) words ≡ Some app → (t : Bool) → are_chosen app row.choices (options_in row words) ≡ t → (if t then Some (request_of row.command app (values_in row words)) else None) ≡ Some request → Means words request
+    by_choices : (app : AppName) → size_of row ≤ length words → app_in (position is_app row.arguments) words ≡ Some app
+        → (t : Bool) → are_chosen app row.choices (options_in row words) ≡ t
+        → (if t then Some (request_of row.command app (values_in row words)) else None) ≡ Some request
+        → Means words request
     by_choices app long names true chosen e =
         let meant = row_meant row words request app long same names chosen in
         record { row = row; listed = listed; app = app; given = meant.0; spelled = meant.1; is = sym (cc e) ∙ meant.2 }
     by_choices app long names false chosen e = absurd (cc e)
 
-    by_app : size_of row ≤ length words → (app : Option AppName) → app_in (position is_app row.arguments) words ≡ app → request_with row words app ≡ Some request → Means words request
+    by_app : size_of row ≤ length words → (app : Option AppName) → app_in (position is_app row.arguments) words ≡ app
+        → request_with row words app ≡ Some request → Means words request
     by_app long None names e = absurd (cc e)
     by_app long (Some app) names e =
         by_choices app long names (are_chosen app row.choices (options_in row words)) refl e
 
-    by_size : (t : Bool) → nat_le (size_of row) (length words) ≡ t → (if t then request_with row words (app_in (position is_app row.arguments) words) else None) ≡ Some request → Means words request
+    by_size : (t : Bool) → nat_le (size_of row) (length words) ≡ t
+        → (if t then request_with row words (app_in (position is_app row.arguments) words) else None) ≡ Some request
+        → Means words request
     by_size true size e =
         let long : size_of row ≤ length words = grind (arith, size) in
         by_app long (app_in (position is_app row.arguments) words) refl e
@@ -36,7 +43,8 @@ by_row_meant row words request listed same is = by_size (nat_le (size_of row) (l
 request_meant : (words : List (List ℕ)) (request : Request) → request_in words ≡ Some request → Means words request
 request_meant words request is = by_row (find (λ (row : Row). bytes_eq (text_at words 0) row.word) table) refl is
   where
-    by_row : (found : Option Row) → find (λ (row : Row). bytes_eq (text_at words 0) row.word) table ≡ found → request_found found words ≡ Some request → Means words request
+    by_row : (found : Option Row) → find (λ (row : Row). bytes_eq (text_at words 0) row.word) table ≡ found
+        → request_found found words ≡ Some request → Means words request
     by_row None f e = absurd (cc e)
     by_row (Some row) f e = let has = found_row (text_at words 0) table row f in by_row_meant row words request has.0 has.1 e
 
@@ -53,7 +61,8 @@ one_request words one other a b = cc (sym (meant_request words one a) ∙ meant_
 
 -- what is read, as an answer
 
-pub meant_only : (words : List (List ℕ)) (found : Result Request Usage) → result_ok found ≡ request_in words → (request : Request) → Means words request → found ≡ Ok request
+pub meant_only : (words : List (List ℕ)) (found : Result Request Usage) → result_ok found ≡ request_in words
+    → (request : Request) → Means words request → found ≡ Ok request
 meant_only words (Ok one) e request m = ap Ok (cc (e ∙ meant_request words request m))
 meant_only words (Err why) e request m = absurd (cc (e ∙ meant_request words request m))
 

@@ -1,5 +1,6 @@
 -- The row that words are those of, and the request that it makes of them.
-use Rattle.std.proofs.Common.{◌≡◌, ℕ, zero, suc, ◌+◌, ◌≤◌, Bool, true, false, ◌&&◌, List, [], ◌∷◌, ◌++◌, length, take, drop, Option, Some, None, refl, sym, ap, subst, ◌∙◌, append_assoc, length-append, arith}
+use Rattle.std.proofs.Common.{◌≡◌, ℕ, zero, suc, ◌+◌, ◌≤◌, Bool, true, false, ◌&&◌, List, [], ◌∷◌, ◌++◌, length, take}
+use Rattle.std.proofs.Common.{drop, Option, Some, None, refl, sym, ap, subst, ◌∙◌, append_assoc, length-append, arith}
 use Rattle.std.specs.Prelude.{Contains, bytes_eq, cond, find, nat_le, not, if◌then◌else◌}
 use Rattle.std.specs.List.{AllByRecursion, list_all, position}
 use Rattle.std.proofs.lemmas.Bool.{le-leb}
@@ -20,26 +21,31 @@ abbrev pub are_apart : List Row → Bool
 are_apart [] = true
 are_apart (row ∷ rows) = list_all (λ other. not (bytes_eq row.word other.word)) rows && are_apart rows
 
-other_word : (one : Row) (rows : List Row) (row : Row) → list_all (λ other. not (bytes_eq one.word other.word)) rows ≡ true → Contains rows row → one.word ≡ row.word → ⊥
+other_word : (one : Row) (rows : List Row) (row : Row)
+    → list_all (λ other. not (bytes_eq one.word other.word)) rows ≡ true → Contains rows row → one.word ≡ row.word → ⊥
 other_word one [] row apart (k, l, e) same = absurd (omega (arith, l))
 other_word one (first ∷ rows) row apart (zero, l, e) same =
     let parts = both (not (bytes_eq one.word first.word)) (list_all (λ other. not (bytes_eq one.word other.word)) rows) apart in
     let equal : bytes_eq one.word first.word ≡ true = (bytes_eq-Decides one.word first.word).1 (same ∙ ap (λ (r : Row). r.word) (sym e)) in
     cc (sym (ap not equal) ∙ parts.0)
 other_word one (first ∷ rows) row apart (suc k, l, e) same =
-    other_word one rows row (both (not (bytes_eq one.word first.word)) (list_all (λ other. not (bytes_eq one.word other.word)) rows) apart).1 (k, omega (arith, l), e) same
+    other_word one rows row (both (not (bytes_eq one.word first.word))
+        (list_all (λ other. not (bytes_eq one.word other.word)) rows) apart).1 (k, omega (arith, l), e) same
 
 -- the row of a word is the one that is found
-pub found_only : (word : List ℕ) (rows : List Row) (row : Row) → are_apart rows ≡ true → Contains rows row → word ≡ row.word → find (λ (r : Row). bytes_eq word r.word) rows ≡ Some row
+pub found_only : (word : List ℕ) (rows : List Row) (row : Row) → are_apart rows ≡ true → Contains rows row
+    → word ≡ row.word → find (λ (r : Row). bytes_eq word r.word) rows ≡ Some row
 found_only word [] row apart (k, l, e) same = absurd (omega (arith, l))
 found_only word (one ∷ rows) row apart (zero, l, e) same =
-    ap (λ t. cond t (Some one) (find (λ (r : Row). bytes_eq word r.word) rows)) ((bytes_eq-Decides word one.word).1 (same ∙ ap (λ (r : Row). r.word) (sym e))) ∙ ap Some e
+    ap (λ t. cond t (Some one) (find (λ (r : Row). bytes_eq word r.word) rows))
+        ((bytes_eq-Decides word one.word).1 (same ∙ ap (λ (r : Row). r.word) (sym e))) ∙ ap Some e
 found_only word (one ∷ rows) row apart (suc k, l, e) same =
     let parts = both (list_all (λ other. not (bytes_eq one.word other.word)) rows) (are_apart rows) apart in
     let later : Contains rows row = (k, omega (arith, l), e) in
     by_test (λ equal. other_word one rows row parts.0 later (sym equal ∙ same)) (found_only word rows row parts.1 later same) (bytes_eq word one.word) refl
   where
-    by_test : (word ≡ one.word → ⊥) → find (λ (r : Row). bytes_eq word r.word) rows ≡ Some row → (t : Bool) → bytes_eq word one.word ≡ t → cond t (Some one) (find (λ (r : Row). bytes_eq word r.word) rows) ≡ Some row
+    by_test : (word ≡ one.word → ⊥) → find (λ (r : Row). bytes_eq word r.word) rows ≡ Some row → (t : Bool)
+        → bytes_eq word one.word ≡ t → cond t (Some one) (find (λ (r : Row). bytes_eq word r.word) rows) ≡ Some row
     by_test unlike later true e = absurd (unlike ((bytes_eq-Decides word one.word).0 e))
     by_test unlike later false e = later
 
@@ -48,7 +54,10 @@ pub found_row : (word : List ℕ) (rows : List Row) (row : Row) → find (λ (r 
 found_row word [] row e = absurd (cc e)
 found_row word (one ∷ rows) row e = by_test (found_row word rows row) (bytes_eq word one.word) refl e
   where
-    by_test : (find (λ (r : Row). bytes_eq word r.word) rows ≡ Some row → Contains rows row × (word ≡ row.word)) → (t : Bool) → bytes_eq word one.word ≡ t → cond t (Some one) (find (λ (r : Row). bytes_eq word r.word) rows) ≡ Some row → Contains (one ∷ rows) row × (word ≡ row.word)
+    by_test : (find (λ (r : Row). bytes_eq word r.word) rows ≡ Some row → Contains rows row × (word ≡ row.word))
+        → (t : Bool) → bytes_eq word one.word ≡ t
+        → cond t (Some one) (find (λ (r : Row). bytes_eq word r.word) rows) ≡ Some row
+        → Contains (one ∷ rows) row × (word ≡ row.word)
     by_test later true f g =
         let same : one ≡ row = cc g in
         ((zero, omega arith, same), (bytes_eq-Decides word one.word).0 f ∙ ap (λ (r : Row). r.word) same)
@@ -62,7 +71,10 @@ same_name {one} {other} is = let same : one ≡ other = cc is in ap app_word sam
 named_from : (word : List ℕ) (app : AppName) → app_named word ≡ Some app → word ≡ app_word app
 named_from word app e = by_enum (bytes_eq word (app_word Enum)) (bytes_eq word (app_word Snaptr)) (bytes_eq word (app_word Unaptr)) refl refl refl e
   where
-    by_enum : (t u v : Bool) → bytes_eq word (app_word Enum) ≡ t → bytes_eq word (app_word Snaptr) ≡ u → bytes_eq word (app_word Unaptr) ≡ v → (if t then Some Enum else (if u then Some Snaptr else (if v then Some Unaptr else None))) ≡ Some app → word ≡ app_word app
+    by_enum : (t u v : Bool) → bytes_eq word (app_word Enum) ≡ t → bytes_eq word (app_word Snaptr) ≡ u
+        → bytes_eq word (app_word Unaptr) ≡ v
+        → (if t then Some Enum else (if u then Some Snaptr else (if v then Some Unaptr else None))) ≡ Some app
+        → word ≡ app_word app
     by_enum true u v f g h is = (bytes_eq-Decides word (app_word Enum)).0 f ∙ same_name is
     by_enum false true v f g h is = (bytes_eq-Decides word (app_word Snaptr)).0 g ∙ same_name is
     by_enum false false true f g h is = (bytes_eq-Decides word (app_word Unaptr)).0 h ∙ same_name is
@@ -82,21 +94,29 @@ app_to None words app is = ap Some (sym is)
 app_to (Some place) words app is = ap app_named is ∙ named_to app
 
 -- the words of a row, with its own word in front
-cut_words : (row : Row) (words : List (List ℕ)) → size_of row ≤ length words → text_at words 0 ≡ row.word → words ≡ row.word ∷ (take (length row.arguments) (drop 1 words) ++ options_in row words)
+cut_words : (row : Row) (words : List (List ℕ)) → size_of row ≤ length words → text_at words 0 ≡ row.word
+    → words ≡ row.word ∷ (take (length row.arguments) (drop 1 words) ++ options_in row words)
 cut_words row [] long same = absurd (omega (arith, long))
 cut_words row (word ∷ words) long same =
     ap (λ (w : List ℕ). w ∷ words) same
-    ∙ ap (λ (ws : List (List ℕ)). row.word ∷ ws) (sym (take-append-drop (length row.arguments) words) ∙ ap (λ (ws : List (List ℕ)). take (length row.arguments) words ++ ws) (sym options))
+    ∙ ap (λ (ws : List (List ℕ)). row.word ∷ ws)
+        (sym (take-append-drop (length row.arguments) words)
+        ∙ ap (λ (ws : List (List ℕ)). take (length row.arguments) words ++ ws) (sym options))
   where
     options : drop (size_of row) (word ∷ words) ≡ drop (length row.arguments) words
     options = sym (drop-drop (length row.arguments) 1 (word ∷ words) ∙ ap (λ n. drop n (word ∷ words)) (omega arith))
 
-values_same : (row : Row) (words : List (List ℕ)) (given : List Given) → options_in row words ≡ words_of given → ◌≡◌ {A = OptionName → List ℕ} (values_in row words) (values_of row given)
+values_same : (row : Row) (words : List (List ℕ)) (given : List Given) → options_in row words ≡ words_of given
+    → ◌≡◌ {A = OptionName → List ℕ} (values_in row words) (values_of row given)
 values_same row words given is =
     λ i option. (ap (places_in (option_word option) (size_of row + 1)) is ∙ places_same (option_word option) (size_of row + 1) given) i
 
 -- a request that words of a row are is meant by them
-pub row_meant : (row : Row) (words : List (List ℕ)) (request : Request) (app : AppName) → size_of row ≤ length words → text_at words 0 ≡ row.word → app_in (position is_app row.arguments) words ≡ Some app → are_chosen app row.choices (options_in row words) ≡ true → (given : List Given) × IsSpelled row words app given × (request_of row.command app (values_in row words) ≡ request_of row.command app (values_of row given))
+pub row_meant : (row : Row) (words : List (List ℕ)) (request : Request) (app : AppName) → size_of row ≤ length words
+    → text_at words 0 ≡ row.word → app_in (position is_app row.arguments) words ≡ Some app
+    → are_chosen app row.choices (options_in row words) ≡ true
+    → (given : List Given) × IsSpelled row words app given
+    × (request_of row.command app (values_in row words) ≡ request_of row.command app (values_of row given))
 row_meant row words request app long same names chosen =
     let found = chosen_from app row.choices (options_in row words) chosen in
     let args : List (List ℕ) = take (length row.arguments) (drop 1 words) in (
@@ -113,7 +133,8 @@ row_meant row words request app long same names chosen =
     )
 
 -- words that a row spells are its request
-pub row_request : (row : Row) (words : List (List ℕ)) (app : AppName) (given : List Given) → IsSpelled row words app given → request_by row words ≡ Some (request_of row.command app (values_of row given))
+pub row_request : (row : Row) (words : List (List ℕ)) (app : AppName) (given : List Given)
+    → IsSpelled row words app given → request_by row words ≡ Some (request_of row.command app (values_of row given))
 row_request row words app given m =
     ap (λ t. if t then request_with row words (app_in (position is_app row.arguments) words) else None) (le-leb _ _ long)
     ∙ ap (request_with row words) (app_to (position is_app row.arguments) words app m.named)

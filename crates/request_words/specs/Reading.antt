@@ -1,5 +1,6 @@
 -- A plain reading of words by the table. That it reads exactly what `Words` defines is proved.
-use Rattle.std.specs.Prelude.{ℕ, ◌+◌, ◌&&◌, Bool, true, false, nat_le, nat_lt, List, [], ◌∷◌, length, find, drop, slice_set, bytes_eq, if◌then◌else◌, Option, Some, None}
+use Rattle.std.specs.Prelude.{ℕ, ◌+◌, ◌&&◌, Bool, true, false, nat_le, nat_lt, List, [], ◌∷◌, length, find, drop}
+use Rattle.std.specs.Prelude.{slice_set, bytes_eq, if◌then◌else◌, Option, Some, None}
 use Rattle.std.specs.List.{list_any, list_all, position}
 use Rattle.request_words.specs.Rows.{Row, app_word, is_app, most_for, option_word, size_of, table}
 use Rattle.request_words.specs.Words.{request_of, text_at}

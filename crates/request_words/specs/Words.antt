@@ -1,5 +1,6 @@
 -- The words of a command, and which request they mean (this project's own).
-use Rattle.std.specs.Prelude.{◌≡◌, ℕ, ◌+◌, ◌≤◌, true, List, [], ◌∷◌, ◌++◌, map, length, take, Any, Contains, bytes_eq, if◌then◌else◌, Option, Some, None, unwrap_or, slice_get, String, string_bytes}
+use Rattle.std.specs.Prelude.{◌≡◌, ℕ, ◌+◌, ◌≤◌, true, List, [], ◌∷◌, ◌++◌, map, length, take, Any, Contains, bytes_eq}
+use Rattle.std.specs.Prelude.{if◌then◌else◌, Option, Some, None, unwrap_or, slice_get, String, string_bytes}
 use Rattle.std.specs.List.{AllByRecursion, position}
 use Rattle.std.specs.declared.alloc.Global.{Global}
 use Rattle.enum_base.specs.Padding.{padded}
@@ -85,7 +86,9 @@ pub record ArePlaces (places : Places) (values : List ℕ) : Type 0 where
 -- the request of a command, by the application and the places of each option's values: of `resolve` the string is word 2
 abbrev pub request_of : Command → AppName → (OptionName → List ℕ) → Request
 request_of command.Resolve app values =
-    request.Resolve (record { app = app; string = 2; want = first_of (values Want); apex = first_of (values Apex); origin = Files (places_from (values Zones)) })
+    request.Resolve
+        (record { app = app; string = 2; want = first_of (values Want); apex = first_of (values Apex);
+        origin = Files (places_from (values Zones)) })
 request_of command.Show app values = request.Show
 
 -- the words mean this request: a row of the table spells them, and it is the request of that row's command

@@ -2,7 +2,8 @@
 ghost use Rattle.std.specs.Prelude.{◌≡◌, ◌+◌, ◌≤◌, ◌<◌, ◌^◌, IfOk, Ok, length, string_bytes, bytes_eq, find, option_map};
 ghost use Rattle.std.specs.List.{list_all, position};
 ghost use Rattle.std.specs.Result.{result_ok};
-ghost use Rattle.request_words.specs.Reading.{app_in, app_named, are_chosen, are_options, is_often, is_option, options_in, places_in, request_by, request_in, request_with, row_in};
+ghost use Rattle.request_words.specs.Reading.{app_in, app_named, are_chosen, are_options, is_often, is_option};
+ghost use Rattle.request_words.specs.Reading.{options_in, places_in, request_by, request_in, request_with, row_in};
 ghost use Rattle.request_words.specs.Rows.{app_word, is_app, option_word, size_of, table};
 ghost use Rattle.request_words.specs.Words.{Means, request_of, texts_of, text_at};
 ghost use Rattle.request_words.specs.declared.request.Request.{Request};

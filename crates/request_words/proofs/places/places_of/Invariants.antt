@@ -8,7 +8,8 @@ use Rattle.request_words.proofs.places.places_of.Given as goal
 abbrev pub invariant-options : goal.invariant-options
 invariant-options l =
     record {
-      read : added l.places (places_in (option_word l.option) l.at (texts_of l.left)) ≡ places_from (places_in (option_word l.option) l.place (texts_of l.words));
+      read : added l.places (places_in (option_word l.option) l.at (texts_of l.left))
+          ≡ places_from (places_in (option_word l.option) l.place (texts_of l.words));
       place : l.at + length l.left ≡ l.place + length l.words;
       count : l.places.count + length l.left ≤ length l.words;
     }
