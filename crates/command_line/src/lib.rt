@@ -6,7 +6,7 @@ mod help;
 mod itself;
 
 use adapters::{FileShelf, StdSink, StdSource};
-use enum_top::{Object, Status, run};
+use enum_top::{Object, Status, Why, run};
 use exit::exit_code;
 use itself::asked_of_itself;
 use std::process::ExitCode;
@@ -18,7 +18,7 @@ pub fn answer(rt: &HostRuntime) -> ExitCode {
         Ok(words) => words,
         Err(error) if error.kind() == io::ErrorKind::OutOfMemory => {
             let _ = eprintln!(rt; "enumd: memory");
-            return exit_code(Status::Memory);
+            return exit_code(Status::Refused(Why::Memory));
         }
         // Words that are no text are no request.
         Err(_) => Vec::new(rt.alloc()),
@@ -55,7 +55,7 @@ fn run_words(rt: &HostRuntime, words: &[String]) -> Status {
 fn tell(rt: &HostRuntime, text: &str) -> ExitCode {
     if rt.print(text).is_err() {
         let _ = eprintln!(rt; "enumd: outside output");
-        return exit_code(Status::Outside(Object::Output));
+        return exit_code(Status::Refused(Why::Outside(Object::Output)));
     }
     ExitCode::SUCCESS
 }

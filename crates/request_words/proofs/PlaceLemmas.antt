@@ -6,8 +6,8 @@ use Rattle.std.proofs.Math.Seq.{set-append_seam}
 use Rattle.std.proofs.lemmas.Bool.Decides.{Decides-ltb}
 use Rattle.std.proofs.lemmas.List.{append-nil, take_all, take-append-le}
 use Rattle.enum_base.specs.Padding.{padded}
-use Rattle.request_words.specs.Reading.{places_in, places_from, with_place, with_value}
-use Rattle.request_words.specs.Words.{texts_of}
+use Rattle.request_words.specs.Reading.{places_in, with_place, with_value}
+use Rattle.request_words.specs.Words.{places_from, texts_of}
 use Rattle.request_words.specs.declared.places.Places.{Places}
 
 zeros_less : (k m : ℕ) → k ≡ m + 1 → replicate {A = ℕ} k 0 ≡ 0 ∷ replicate {A = ℕ} m 0

@@ -1,7 +1,7 @@
 use Rattle.std.proofs.Common.{◌≡◌, ◌≤◌, ◌+◌, length}
-use Rattle.request_words.specs.Reading.{places_from, places_in}
+use Rattle.request_words.specs.Reading.{places_in}
 use Rattle.request_words.specs.Rows.{option_word}
-use Rattle.request_words.specs.Words.{texts_of}
+use Rattle.request_words.specs.Words.{places_from, texts_of}
 use Rattle.request_words.proofs.PlaceLemmas.{added}
 use Rattle.request_words.proofs.places.places_of.Given as goal
 

@@ -1,7 +1,7 @@
 use Rattle.std.proofs.Common.{Ok, Err, ap, refl}
 use Rattle.enum_base.specs.Stages.Then.{goes, stops}
-use Rattle.enum_top.specs.declared.refusal.Refusal.TheVariants.{IllFormed}
-use Rattle.enum_top.proofs.AskedLemmas.{no_cause, one_cause}
+use Rattle.enum_top.specs.declared.why.Why.TheVariants.{Judged}
+use Rattle.enum_top.proofs.InquiryLemmas.{no_cause, one_cause}
 use Rattle.enum_top.proofs.DoesLemmas.{done, got, ill_formed, passed, stopped_by}
 use Rattle.enum_top.proofs.commands.resolve.resolve_text.Goals as goal
 
@@ -9,7 +9,7 @@ pub returns-in-Err-clause-does : goal.returns-in-Err-clause-does
 returns-in-Err-clause-does g c = ill_formed (stops _ c.in-Err.ensures refl)
 
 pub returns-in-Err-clause-early : goal.returns-in-Err-clause-early
-returns-in-Err-clause-early g c = λ cause asks. ap (λ x. Err (IllFormed x)) (one_cause _ _ _ _ _ _ cause c.in-Err.ensures asks)
+returns-in-Err-clause-early g c = λ cause asks. ap (λ x. Err (Judged x)) (one_cause _ _ _ _ _ _ cause c.in-Err.ensures asks)
 
 pub returns-in_err-zones-clause-does : goal.returns-in_err-zones-clause-does
 returns-in_err-zones-clause-does g c =
