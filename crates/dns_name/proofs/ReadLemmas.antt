@@ -3,7 +3,7 @@ use Rattle.std.proofs.Common.{◌≡◌, ℕ, suc, ◌+◌, ◌<◌, ◌≤◌, 
 use Rattle.std.proofs.lemmas.List.{length-take}
 use Rattle.std.proofs.lemmas.Bool.Decides.{nat_tests}
 use Rattle.dns_name.specs.Name.{wire_of}
-use Rattle.dns_name.specs.Wire.{StandsAt, RootAt, LabelAt, PointerAt, Field, Leads, labels_in, behind_pointer, NameAt, Reaches, IsCut, IsBadType, NameBreaks, by_label, by_pointer}
+use Rattle.dns_name.specs.Wire.{StandsAt, RootAt, LabelAt, PointerAt, Field, Leads, labels_in, after_pointer, NameAt, Reaches, IsCut, IsBadType, NameBreaks, by_label, by_pointer}
 use Rattle.dns_name.specs.declared.wire_fault.WireFault.{WireFault}
 use Rattle.dns_name.specs.declared.wire_fault.WireFault.TheVariants.{Short, BadLabelType, ForwardPointer, NameTooLong}
 use Rattle.dns_name.proofs.WireLemmas.{from_place, one_label, one_pointer, label_no_pointer, one_first, IsStop, one_way}
@@ -28,7 +28,7 @@ stands message at x xs h =
     all_of : (bytes : List ℕ) (y : ℕ) (ys : List ℕ) → bytes ≡ y ∷ ys → take (suc (length ys)) bytes ≡ y ∷ ys
     all_of bytes y ys e = ap (take (suc (length ys))) e ∙ ap (λ l. y ∷ l) (all ys)
 
--- what the byte at a place and the room behind it decide
+-- what the byte at a place and the room after it decide
 pub verdict : ℕ → ℕ → ℕ → Option WireFault
 verdict at byte size =
     cond (nat_le size at) (Some (Short at)) (cond (byte == 0) None (cond (nat_lt byte 64) (cond (nat_lt (at + byte) size) (Some (NameTooLong at)) (Some (Short at))) (cond (nat_lt byte 192) (Some (BadLabelType at)) (cond (nat_lt (at + 1) size) (Some (ForwardPointer at)) (Some (Short at))))))
@@ -74,7 +74,9 @@ pub pointer_stands : (message : List ℕ) (at offset : ℕ) → PointerAt messag
 pointer_stands message at offset (high, low, h, m, is) = (high, m, stands message at high (low ∷ []) h)
 
 -- a byte that begins neither a label that lies in the message nor a pointer stops it
-stop_by : (message : List ℕ) (labels : List (List ℕ)) (start here : ℕ) → ((n : ℕ) → Stands message here n (suc n) → 0 < n → n ≤ 63 → ⊥) → ((high : ℕ) → Stands message here high 2 → 192 ≤ high → ⊥) → IsStop message labels start here
+stop_by : (message : List ℕ) (labels : List (List ℕ)) (start here : ℕ)
+    → ((n : ℕ) → Stands message here n (suc n) → 0 < n → n ≤ 63 → ⊥)
+    → ((high : ℕ) → Stands message here high 2 → 192 ≤ high → ⊥) → IsStop message labels start here
 stop_by message labels start here no_label no_pointer = record {
   label = λ l h fits. no_label (length l) (label_stands message here l h) h.1.some h.1.most;
   pointer = λ o h below. let p = pointer_stands message here o h in no_pointer p.0 p.2 p.1;
@@ -122,7 +124,8 @@ bad_ends message labels start here (byte, h, some, most) =
       told = verdict-bad here (get_or message here 0) (length message) byte (omega arith) is some most;
     }
 
-pub forward_ends : (message : List ℕ) (labels : List (List ℕ)) (start here offset : ℕ) → PointerAt message here offset → start ≤ offset → Ends message labels start here (Some (ForwardPointer here))
+pub forward_ends : (message : List ℕ) (labels : List (List ℕ)) (start here offset : ℕ) → PointerAt message here offset
+    → start ≤ offset → Ends message labels start here (Some (ForwardPointer here))
 forward_ends message labels start here offset h forward =
     let p = pointer_stands message here offset h in
     let some = p.1 in
@@ -136,7 +139,9 @@ forward_ends message labels start here offset h forward =
       told = verdict-forward here (get_or message here 0) (length message) p.0 (omega arith) is some;
     }
 
-pub long_ends : (message : List ℕ) (labels : List (List ℕ)) (start here : ℕ) (label : List ℕ) → LabelAt message here label → 255 < length (wire_of (labels ++ label ∷ [])) → Ends message labels start here (Some (NameTooLong here))
+pub long_ends : (message : List ℕ) (labels : List (List ℕ)) (start here : ℕ) (label : List ℕ)
+    → LabelAt message here label → 255 < length (wire_of (labels ++ label ∷ []))
+    → Ends message labels start here (Some (NameTooLong here))
 long_ends message labels start here label h long =
     let s = label_stands message here label h in
     let is = s.is in
@@ -197,7 +202,8 @@ pub record SameReading {message : List ℕ} {at : ℕ} {why why' : Option WireFa
   pub start : one.start ≡ two.start
   pub here : one.here ≡ two.here
 
-pub same_reading : (message : List ℕ) (at : ℕ) (why why' : Option WireFault) (one : Reading message at why) (two : Reading message at why') → SameReading one two
+pub same_reading : (message : List ℕ) (at : ℕ) (why why' : Option WireFault) (one : Reading message at why) (two : Reading message at why')
+    → SameReading one two
 same_reading message at why why' one two =
     let P : List (List ℕ) → Type 0 = λ l. length (wire_of l) ≤ 255 in
     let Q : List (List ℕ) → Type 0 = λ l. IsStop message l one.start one.here in
@@ -206,7 +212,9 @@ same_reading message at why why' one two =
     record { fields = way.0; start = way.1; here = way.2 }
 
 -- two cuts that are reached are reached in one run
-pub same_start : (message : List ℕ) (at place place' start start' : ℕ) (one two : List (List ℕ)) → Reaches message at one start place → IsCut message place → Reaches message at two start' place' → IsCut message place' → start ≡ start'
+pub same_start : (message : List ℕ) (at place place' start start' : ℕ) (one two : List (List ℕ))
+    → Reaches message at one start place → IsCut message place → Reaches message at two start' place'
+    → IsCut message place' → start ≡ start'
 same_start message at place place' start start' one two far cut far' cut' =
     let first : Reading message at (Some (Short place)) = record { labels = one; start = start; here = place; far = far; ends = cut_ends message one start place cut } in
     let second : Reading message at (Some (Short place')) = record { labels = two; start = start'; here = place'; far = far'; ends = cut_ends message two start' place' cut' } in
@@ -221,28 +229,32 @@ pub one_fault : (message : List ℕ) (at : ℕ) (one two : WireFault) → NameBr
 one_fault message at one two h k =
     let e = one_why message at (Some one) (Some two) (of_fault message at one h) (of_fault message at two k) in cc
 
-pub not_both : (message : List ℕ) (at : ℕ) (labels : List (List ℕ)) (next : ℕ) (fault : WireFault) → NameAt message at labels next → NameBreaks message at fault → ⊥
+pub not_both : (message : List ℕ) (at : ℕ) (labels : List (List ℕ)) (next : ℕ) (fault : WireFault)
+    → NameAt message at labels next → NameBreaks message at fault → ⊥
 not_both message at labels next fault h k =
     let e = one_why message at None (Some fault) (of_name message at labels next h) (of_fault message at fault k) in cc
 
-pub one_name : (message : List ℕ) (at : ℕ) (one two : List (List ℕ)) (next next' : ℕ) → NameAt message at one next → NameAt message at two next' → (one ≡ two) × (next ≡ next')
+pub one_name : (message : List ℕ) (at : ℕ) (one two : List (List ℕ)) (next next' : ℕ) → NameAt message at one next
+    → NameAt message at two next' → (one ≡ two) × (next ≡ next')
 unfolding of_name
 one_name message at one two next next' h k =
     let same = same_reading message at None None (of_name message at one next h) (of_name message at two next' k) in
     let fields : h.fields ≡ k.fields = same.fields in
     let root : h.root ≡ k.root = same.here in (
       h.spelt ∙ ap labels_in fields ∙ sym k.spelt,
-      h.behind ∙ ap (λ f. unwrap_or (behind_pointer at f) (h.root + 1)) fields ∙ ap (λ r. unwrap_or (behind_pointer at k.fields) (r + 1)) root ∙ sym k.behind,
+      h.after ∙ ap (λ f. unwrap_or (after_pointer at f) (h.root + 1)) fields ∙ ap (λ r. unwrap_or (after_pointer at k.fields) (r + 1)) root ∙ sym k.after,
     )
 
 -- one field more
-pub leads-label : (message : List ℕ) (s a : ℕ) (fs : List Field) (t h : ℕ) (label : List ℕ) → Leads message s a fs t h → LabelAt message h label → Leads message s a (fs ++ by_label label ∷ []) t (h + (length label + 1))
+pub leads-label : (message : List ℕ) (s a : ℕ) (fs : List Field) (t h : ℕ) (label : List ℕ) → Leads message s a fs t h
+    → LabelAt message h label → Leads message s a (fs ++ by_label label ∷ []) t (h + (length label + 1))
 leads-label message s a [] t h label f l = (subst (λ x. LabelAt message x label) (sym f.1) l, (f.0, ap (λ x. x + (length label + 1)) f.1))
 leads-label message s a (by_label one ∷ fs) t h label f l =
     (f.0, leads-label message s (a + (length one + 1)) fs t h label f.1 l)
 leads-label message s a (by_pointer o ∷ fs) t h label f l = (f.0, f.1, leads-label message o o fs t h label f.2 l)
 
-pub leads-pointer : (message : List ℕ) (s a : ℕ) (fs : List Field) (t h offset : ℕ) → Leads message s a fs t h → PointerAt message h offset → offset < t → Leads message s a (fs ++ by_pointer offset ∷ []) offset offset
+pub leads-pointer : (message : List ℕ) (s a : ℕ) (fs : List Field) (t h offset : ℕ) → Leads message s a fs t h
+    → PointerAt message h offset → offset < t → Leads message s a (fs ++ by_pointer offset ∷ []) offset offset
 leads-pointer message s a [] t h offset f p below =
     (subst (λ x. PointerAt message x offset) (sym f.1) p, let e = f.0 in omega arith, (refl, refl))
 leads-pointer message s a (by_label one ∷ fs) t h offset f p below =
@@ -259,21 +271,24 @@ labels_in-pointer [] offset = refl
 labels_in-pointer (by_label one ∷ fs) offset = ap (λ l. one ∷ l) (labels_in-pointer fs offset)
 labels_in-pointer (by_pointer o ∷ fs) offset = labels_in-pointer fs offset
 
-pub behind-label : (a : ℕ) (fs : List Field) (label : List ℕ) → behind_pointer a (fs ++ by_label label ∷ []) ≡ behind_pointer a fs
-behind-label a [] label = refl
-behind-label a (by_label one ∷ fs) label = behind-label (a + (length one + 1)) fs label
-behind-label a (by_pointer o ∷ fs) label = refl
+pub after-label : (a : ℕ) (fs : List Field) (label : List ℕ) → after_pointer a (fs ++ by_label label ∷ []) ≡ after_pointer a fs
+after-label a [] label = refl
+after-label a (by_label one ∷ fs) label = after-label (a + (length one + 1)) fs label
+after-label a (by_pointer o ∷ fs) label = refl
 
-pub behind-pointer : (message : List ℕ) (s a : ℕ) (fs : List Field) (t h offset : ℕ) → Leads message s a fs t h → behind_pointer a (fs ++ by_pointer offset ∷ []) ≡ Some (unwrap_or (behind_pointer a fs) (h + 2))
-behind-pointer message s a [] t h offset f = ap (λ x. Some (x + 2)) f.1
-behind-pointer message s a (by_label one ∷ fs) t h offset f = behind-pointer message s (a + (length one + 1)) fs t h offset f.1
-behind-pointer message s a (by_pointer o ∷ fs) t h offset f = refl
+pub after-pointer : (message : List ℕ) (s a : ℕ) (fs : List Field) (t h offset : ℕ) → Leads message s a fs t h
+    → after_pointer a (fs ++ by_pointer offset ∷ []) ≡ Some (unwrap_or (after_pointer a fs) (h + 2))
+after-pointer message s a [] t h offset f = ap (λ x. Some (x + 2)) f.1
+after-pointer message s a (by_label one ∷ fs) t h offset f = after-pointer message s (a + (length one + 1)) fs t h offset f.1
+after-pointer message s a (by_pointer o ∷ fs) t h offset f = refl
 
 -- reading begins
 unfoldable pub reaches-start : (message : List ℕ) (at : ℕ) → Reaches message at [] at at
 reaches-start message at = record { fields = []; leads = (refl, refl); spelt = refl; short = omega arith }
 
-unfoldable pub reaches-label : (message : List ℕ) (at : ℕ) (labels : List (List ℕ)) (start here : ℕ) (label : List ℕ) → Reaches message at labels start here → LabelAt message here label → length (wire_of (labels ++ label ∷ [])) ≤ 255 → Reaches message at (labels ++ label ∷ []) start (here + (length label + 1))
+unfoldable pub reaches-label : (message : List ℕ) (at : ℕ) (labels : List (List ℕ)) (start here : ℕ) (label : List ℕ)
+    → Reaches message at labels start here → LabelAt message here label → length (wire_of (labels ++ label ∷ [])) ≤ 255
+    → Reaches message at (labels ++ label ∷ []) start (here + (length label + 1))
 reaches-label message at labels start here label r l fits = record {
   fields = r.fields ++ by_label label ∷ [];
   leads = leads-label message at at r.fields start here label r.leads l;
@@ -281,7 +296,9 @@ reaches-label message at labels start here label r l fits = record {
   short = fits;
 }
 
-unfoldable pub reaches-pointer : (message : List ℕ) (at : ℕ) (labels : List (List ℕ)) (start here offset : ℕ) → Reaches message at labels start here → PointerAt message here offset → offset < start → Reaches message at labels offset offset
+unfoldable pub reaches-pointer : (message : List ℕ) (at : ℕ) (labels : List (List ℕ)) (start here offset : ℕ)
+    → Reaches message at labels start here → PointerAt message here offset → offset < start
+    → Reaches message at labels offset offset
 reaches-pointer message at labels start here offset r p below = record {
   fields = r.fields ++ by_pointer offset ∷ [];
   leads = leads-pointer message at at r.fields start here offset r.leads p below;
@@ -289,7 +306,8 @@ reaches-pointer message at labels start here offset r p below = record {
   short = r.short;
 }
 
-pub name_reached : (message : List ℕ) (at : ℕ) (labels : List (List ℕ)) (start here : ℕ) (r : Reaches message at labels start here) → RootAt message here → NameAt message at labels (unwrap_or (behind_pointer at r.fields) (here + 1))
+pub name_reached : (message : List ℕ) (at : ℕ) (labels : List (List ℕ)) (start here : ℕ) (r : Reaches message at labels start here)
+    → RootAt message here → NameAt message at labels (unwrap_or (after_pointer at r.fields) (here + 1))
 name_reached message at labels start here r root = record {
   fields = r.fields;
   start = start;
@@ -298,5 +316,5 @@ name_reached message at labels start here r root = record {
   end = root;
   spelt = r.spelt;
   short = r.short;
-  behind = refl;
+  after = refl;
 }

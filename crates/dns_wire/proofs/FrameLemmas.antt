@@ -6,7 +6,7 @@ use Rattle.std.specs.Int.{w16, to_be_bytes, byte_at}
 use Rattle.byteorder.specs.Endian.{big_number}
 use Rattle.dns_name.specs.Name.{IsByte}
 use Rattle.dns_name.proofs.NameLemmas.{AllByRecursion-append}
-use Rattle.naptr_data.proofs.FieldLemmas.{by_size}
+use Rattle.rdata_field.proofs.PlaceLemmas.{by_size}
 use Rattle.dns_wire.specs.Framing.{FitsFrame, framed, framed_all, Stream, stream_bytes, BeginsWith, IsNoWhole, Gives, HasCut, OneCut, SomeCut}
 use Rattle.dns_wire.specs.Frames.{messages_within, messages_of, cut_at, AreWhole, IsFrontWhole}
 
@@ -22,7 +22,8 @@ of_two_bytes : (n : ℕ) → n < 2 ^ 16 → 256 * byte_at 1 n + byte_at 0 n ≡ 
 of_two_bytes n small = omega arith
 
 -- messages on a stream are read from it
-messages_within-framed_all : (messages : List (List ℕ)) (more : ℕ) → AllByRecursion FitsFrame messages → length (framed_all messages) ≤ more → messages_within more (framed_all messages) ≡ messages
+messages_within-framed_all : (messages : List (List ℕ)) (more : ℕ) → AllByRecursion FitsFrame messages
+    → length (framed_all messages) ≤ more → messages_within more (framed_all messages) ≡ messages
 unfolding messages_within
 messages_within-framed_all [] zero fit room = refl
 messages_within-framed_all [] (suc more) fit room = refl
@@ -63,7 +64,8 @@ front_of_all m ms rest fits = record { fits = fits; parts = append_assoc (framed
 pub one_cut : OneCut
 one_cut bytes one other rest rest' h k = same one other (sym h.parts ∙ k.parts) h.fit k.fit
   where
-    same : (one other : List (List ℕ)) → framed_all one ++ rest ≡ framed_all other ++ rest' → AllByRecursion FitsFrame one → AllByRecursion FitsFrame other → (one ≡ other) × (rest ≡ rest')
+    same : (one other : List (List ℕ)) → framed_all one ++ rest ≡ framed_all other ++ rest'
+        → AllByRecursion FitsFrame one → AllByRecursion FitsFrame other → (one ≡ other) × (rest ≡ rest')
     same [] [] is f g = (refl, is)
     same [] (m ∷ ms) is f g =
         let P : List ℕ → Type 0 = λ b. BeginsWith b m (framed_all ms ++ rest') in
@@ -83,59 +85,65 @@ IsNoWhole-short bytes short message after h =
     let size : length bytes ≡ length (framed message ++ after) = ap length h.parts in
     absurd (omega arith)
 
--- too few bytes behind their length
+-- too few bytes after their length
 pub IsNoWhole-cut : (bytes : List ℕ) (size : ℕ) → size ≡ big_number 2 bytes → 2 ≤ length bytes → length bytes < 2 + size → IsNoWhole bytes
 IsNoWhole-cut [] size is room cut message after h = absurd (omega arith)
 IsNoWhole-cut (high ∷ []) size is room cut message after h = absurd (omega arith)
-IsNoWhole-cut (high ∷ low ∷ behind) size is room cut message after h =
-    let parts : high ∷ low ∷ behind ≡ framed message ++ after = h.parts in
+IsNoWhole-cut (high ∷ low ∷ tail) size is room cut message after h =
+    let parts : high ∷ low ∷ tail ≡ framed message ++ after = h.parts in
     let first : high ≡ byte_at 1 (length message) = cc parts in
     let second : low ≡ byte_at 0 (length message) = cc parts in
-    let rest : behind ≡ message ++ after = cc parts in
-    let told : 256 * high + low ≡ length message = ap (λ b. 256 * b + low) first ∙ ap (λ b. 256 * byte_at 1 (length message) + b) second ∙ of_two_bytes (length message) h.fits in
-    let all : length behind ≡ length message + length after = ap length rest ∙ length-append message after in
+    let rest : tail ≡ message ++ after = cc parts in
+    let told : 256 * high + low ≡ length message = ap (λ b. 256 * b + low) first
+    ∙ ap (λ b. 256 * byte_at 1 (length message) + b) second ∙ of_two_bytes (length message) h.fits in
+    let all : length tail ≡ length message + length after = ap length rest ∙ length-append message after in
     let number : size ≡ 256 * high + low = is ∙ omega arith in
     absurd (omega arith)
 
--- a message behind its length
-begins_with : (high low size : ℕ) (behind : List ℕ) → high < 256 → low < 256 → size ≡ 256 * high + low → size ≤ length behind → BeginsWith (high ∷ low ∷ behind) (take size behind) (drop size behind)
-begins_with high low size behind h l number room =
-    let whole : length (take size behind) ≡ size = length-take size behind ∙ omega arith in
+-- a message after its length
+begins_with : (high low size : ℕ) (tail : List ℕ) → high < 256 → low < 256 → size ≡ 256 * high + low
+    → size ≤ length tail → BeginsWith (high ∷ low ∷ tail) (take size tail) (drop size tail)
+begins_with high low size tail h l number room =
+    let whole : length (take size tail) ≡ size = length-take size tail ∙ omega arith in
     record {
       fits = omega arith;
       parts =
-          ap (λ x. high ∷ low ∷ x) (sym (take-append-drop size behind))
-          ∙ ap (λ x. x ++ (take size behind ++ drop size behind)) (sym (two_bytes high low h l))
-          ∙ ap (λ k. to_be_bytes w16 k ++ (take size behind ++ drop size behind)) (sym number ∙ sym whole)
-          ∙ sym (append_assoc (to_be_bytes w16 (length (take size behind))) (take size behind) (drop size behind));
+          ap (λ x. high ∷ low ∷ x) (sym (take-append-drop size tail))
+          ∙ ap (λ x. x ++ (take size tail ++ drop size tail)) (sym (two_bytes high low h l))
+          ∙ ap (λ k. to_be_bytes w16 k ++ (take size tail ++ drop size tail)) (sym number ∙ sym whole)
+          ∙ sym (append_assoc (to_be_bytes w16 (length (take size tail))) (take size tail) (drop size tail));
     }
 
-each_behind : (bytes : List ℕ) (n : ℕ) → AllByRecursion IsByte bytes → AllByRecursion IsByte (drop n bytes)
-each_behind bytes zero each = each
-each_behind [] (suc n) each = tt
-each_behind (b ∷ bytes) (suc n) each = each_behind bytes n each.1
+each_after : (bytes : List ℕ) (n : ℕ) → AllByRecursion IsByte bytes → AllByRecursion IsByte (drop n bytes)
+each_after bytes zero each = each
+each_after [] (suc n) each = tt
+each_after (b ∷ bytes) (suc n) each = each_after bytes n each.1
 
 -- a stream with a length at its front has a cut, if each shorter one has
-cut_behind : (more high low size : ℕ) (behind : List ℕ) → ((bytes : List ℕ) → AllByRecursion IsByte bytes → length bytes ≤ more → HasCut bytes) → AllByRecursion IsByte (high ∷ low ∷ behind) → length behind ≤ more → size ≡ 256 * high + low → (size ≤ length behind) ⊎ (length behind < size) → HasCut (high ∷ low ∷ behind)
-cut_behind more high low size behind on each room number (inl fits) =
-    let first = begins_with high low size behind each.0 each.1.0 number fits in
-    let left = on (drop size behind) (each_behind behind size each.1.1) (omega (arith, length-drop size behind)) in
+cut_after : (more high low size : ℕ) (tail : List ℕ)
+    → ((bytes : List ℕ) → AllByRecursion IsByte bytes → length bytes ≤ more → HasCut bytes)
+    → AllByRecursion IsByte (high ∷ low ∷ tail) → length tail ≤ more → size ≡ 256 * high + low
+    → (size ≤ length tail) ⊎ (length tail < size) → HasCut (high ∷ low ∷ tail)
+cut_after more high low size tail on each room number (inl fits) =
+    let first = begins_with high low size tail each.0 each.1.0 number fits in
+    let left = on (drop size tail) (each_after tail size each.1.1) (omega (arith, length-drop size tail)) in
     record {
-      messages = take size behind ∷ left.messages;
+      messages = take size tail ∷ left.messages;
       rest = left.rest;
       cut = record {
-        parts = first.parts ∙ ap (λ x. framed (take size behind) ++ x) left.cut.parts ∙ sym (append_assoc (framed (take size behind)) (framed_all left.messages) left.rest);
+        parts = first.parts ∙ ap (λ x. framed (take size tail) ++ x) left.cut.parts
+            ∙ sym (append_assoc (framed (take size tail)) (framed_all left.messages) left.rest);
         fit = (first.fits, left.cut.fit);
         end = left.cut.end;
       };
     }
-cut_behind more high low size behind on each room number (inr cut) = record {
+cut_after more high low size tail on each room number (inr cut) = record {
   messages = [];
-  rest = high ∷ low ∷ behind;
+  rest = high ∷ low ∷ tail;
   cut = record {
     parts = refl;
     fit = tt;
-    end = IsNoWhole-cut (high ∷ low ∷ behind) size (number ∙ omega arith) (omega arith) (omega arith);
+    end = IsNoWhole-cut (high ∷ low ∷ tail) size (number ∙ omega arith) (omega arith) (omega arith);
   };
 }
 
@@ -145,9 +153,9 @@ cut_short bytes few = record { messages = []; rest = bytes; cut = record { parts
 cut_within : (more : ℕ) (bytes : List ℕ) → AllByRecursion IsByte bytes → length bytes ≤ more → HasCut bytes
 cut_within more [] each room = cut_short [] (omega arith)
 cut_within more (high ∷ []) each room = cut_short (high ∷ []) (omega arith)
-cut_within zero (high ∷ low ∷ behind) each room = absurd (omega arith)
-cut_within (suc more) (high ∷ low ∷ behind) each room =
-    cut_behind more high low (256 * high + low) behind (λ bytes each room. cut_within more bytes each room) each (omega arith) refl (by_size (256 * high + low) (length behind))
+cut_within zero (high ∷ low ∷ tail) each room = absurd (omega arith)
+cut_within (suc more) (high ∷ low ∷ tail) each room =
+    cut_after more high low (256 * high + low) tail (λ bytes each room. cut_within more bytes each room) each (omega arith) refl (by_size (256 * high + low) (length tail))
 
 -- every stream has a cut
 pub some_cut : SomeCut
@@ -162,7 +170,8 @@ pub cut_at-new : ◌≡◌ {A = Stream} (cut_at [] 0) (record { given = []; rest
 unfolding messages_of messages_within
 cut_at-new = refl
 
-AreWhole-read : (bytes : List ℕ) (messages : List (List ℕ)) → AllByRecursion FitsFrame messages → framed_all messages ≡ bytes → AreWhole bytes × (messages_of bytes ≡ messages)
+AreWhole-read : (bytes : List ℕ) (messages : List (List ℕ)) → AllByRecursion FitsFrame messages
+    → framed_all messages ≡ bytes → AreWhole bytes × (messages_of bytes ≡ messages)
 AreWhole-read bytes messages fit is =
     let read : messages_of bytes ≡ messages = ap messages_of (sym is) ∙ messages_of-framed_all messages fit in
     let P : List (List ℕ) → Type 0 = AllByRecursion FitsFrame in
@@ -185,13 +194,15 @@ pub record HasGiven (bytes : List ℕ) (place next : ℕ) : Type 0 where
   pub place_is : place + 2 ≡ length (framed_all (messages_of (take place bytes))) + 2
   pub within : next ≤ length (stream_bytes (cut_at bytes next))
 
--- the same by the message and what is behind it
+-- the same by the message and what is after it
 record Step (bytes : List ℕ) (place next : ℕ) (message after : List ℕ) : Type 0 where
   whole : IsFrontWhole bytes next
   given : messages_of (take next bytes) ≡ messages_of (take place bytes) ++ message ∷ []
   rest : drop next bytes ≡ after
 
-step : (bytes : List ℕ) (place next : ℕ) (message after : List ℕ) → IsFrontWhole bytes place → BeginsWith (drop place bytes) message after → next ≡ place + (2 + length message) → Step bytes place next message after
+step : (bytes : List ℕ) (place next : ℕ) (message after : List ℕ) → IsFrontWhole bytes place
+    → BeginsWith (drop place bytes) message after → next ≡ place + (2 + length message)
+    → Step bytes place next message after
 step bytes place next message after h first at =
     let given = messages_of (take place bytes) in
     let front = framed_all given ++ framed message in
@@ -214,7 +225,9 @@ step bytes place next message after h first at =
       rest = ap (drop next) all ∙ drop_at front after next seam;
     }
 
-pub HasGiven-front : (bytes : List ℕ) (place size : ℕ) → IsFrontWhole bytes place → BeginsWith (drop place bytes) (take size (drop 2 (drop place bytes))) (drop size (drop 2 (drop place bytes))) → 2 + size ≤ length (drop place bytes) → HasGiven bytes place (place + 2 + size)
+pub HasGiven-front : (bytes : List ℕ) (place size : ℕ) → IsFrontWhole bytes place
+    → BeginsWith (drop place bytes) (take size (drop 2 (drop place bytes))) (drop size (drop 2 (drop place bytes)))
+    → 2 + size ≤ length (drop place bytes) → HasGiven bytes place (place + 2 + size)
 HasGiven-front bytes place size h first room =
     let next = place + 2 + size in
     let message = take size (drop 2 (drop place bytes)) in
@@ -236,7 +249,9 @@ HasGiven-front bytes place size h first room =
     }
 
 -- the same, as a slice of what is held
-pub HasGiven-held : (bytes held : List ℕ) (place size : ℕ) → held ≡ bytes → IsFrontWhole bytes place → BeginsWith (take (length held - place) (drop place held)) (take size (drop 2 (take (length held - place) (drop place held)))) (drop size (drop 2 (take (length held - place) (drop place held)))) → 2 + size ≤ length (take (length held - place) (drop place held)) → HasGiven bytes place (place + 2 + size)
+pub HasGiven-held : (bytes held : List ℕ) (place size : ℕ) → held ≡ bytes → IsFrontWhole bytes place
+    → BeginsWith (take (length held - place) (drop place held)) (take size (drop 2 (take (length held - place) (drop place held)))) (drop size (drop 2 (take (length held - place) (drop place held))))
+    → 2 + size ≤ length (take (length held - place) (drop place held)) → HasGiven bytes place (place + 2 + size)
 HasGiven-held bytes held place size is h first room =
     let rest : take (length held - place) (drop place held) ≡ drop place bytes = take_rest held place ∙ ap (drop place) is in
     let P : List ℕ → Type 0 = λ r. BeginsWith r (take size (drop 2 r)) (drop size (drop 2 r)) in

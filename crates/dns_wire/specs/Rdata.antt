@@ -3,7 +3,8 @@ use Rattle.std.specs.Prelude.{ℕ, List, ◌++◌}
 use Rattle.std.specs.Int.{w16, w32, to_be_bytes}
 use Rattle.std.specs.List.{flat_map}
 use Rattle.dns_name.specs.Name.{wire_of}
-use Rattle.naptr_data.specs.Rdata.{string_wire, rdata}
+use Rattle.rdata_field.specs.Strings.{string_wire}
+use Rattle.naptr_rule.specs.Rdata.{rdata}
 use Rattle.dns_wire.specs.declared.content.Soa.{Soa}
 use Rattle.dns_wire.specs.declared.content.Content.{Content}
 use Rattle.dns_wire.specs.declared.content.Content.TheVariants as content
@@ -11,7 +12,8 @@ use Rattle.dns_wire.specs.declared.content.Content.TheVariants as content
 -- the RDATA of an SOA record: two names and five numbers of 32 bits, the high byte first (RFC 1035, 3.3.13)
 abbrev pub soa_rdata : Soa → List ℕ
 soa_rdata soa =
-    wire_of soa.mname ++ wire_of soa.rname ++ to_be_bytes w32 soa.serial ++ to_be_bytes w32 soa.refresh ++ to_be_bytes w32 soa.retry ++ to_be_bytes w32 soa.expire ++ to_be_bytes w32 soa.minimum
+    wire_of soa.mname ++ wire_of soa.rname ++ to_be_bytes w32 soa.serial ++ to_be_bytes w32 soa.refresh
+    ++ to_be_bytes w32 soa.retry ++ to_be_bytes w32 soa.expire ++ to_be_bytes w32 soa.minimum
 
 -- the RDATA of content (RFC 1035, 3.3 and 3.4; RFC 3596, 2.2; RFC 2782; RFC 3403, 4.1)
 abbrev pub rdata_of : Content → List ℕ

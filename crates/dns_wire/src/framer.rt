@@ -11,7 +11,7 @@ use std::ops::Range;
 
 /// Cuts a stream that comes in pieces into its messages: each is two bytes that tell its length, the
 /// high byte first, and then so many bytes (RFC 1035, 4.2.2). All bytes of the stream stay held.
-/// Contracts see the messages that were given and the bytes behind them.
+/// Contracts see the messages that were given and the bytes after them.
 #[derive(Drop)]
 pub struct Framer {
     stream: Bytes,
@@ -47,7 +47,7 @@ impl Framer {
     /// Appends a piece to the stream.
     ///
     /// # Errors
-    /// Memory ran out; the stream is then as it was.
+    /// Out of memory; the stream is then as it was.
     pub fn feed(&mut self, piece: &[u8]) -> Result<(), MemoryFault>
         ensures ok { OnOk result (self.new ≡ record self.old { rest = self.old.rest ++ piece.now }) }
         ensures err { OnErr result (self.new ≡ self.old) }

@@ -10,13 +10,15 @@ mod encoding;
 mod field;
 mod form;
 mod framer;
+pub mod kinds;
 mod laws;
+pub mod limits;
 mod message;
 mod question;
 mod rdata;
-mod rdata_field;
 mod reading;
 mod record;
+mod texts;
 
 pub use content::{Content, Soa, Texts};
 pub use decode_fault::DecodeFault;

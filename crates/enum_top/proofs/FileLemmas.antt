@@ -22,8 +22,8 @@ use Rattle.enum_base.specs.Stages.Then.{goes, stops}
 use Rattle.enum_top.specs.ZoneFiles.{Files, TextAt, found}
 use Rattle.enum_top.specs.declared.cause.Cause.{Cause}
 use Rattle.enum_top.specs.declared.cause.Cause.TheVariants.{Absent, Text}
-use Rattle.enum_top.specs.declared.refusal.Refusal.{Refusal}
-use Rattle.enum_top.specs.declared.status.Object.{Object}
+use Rattle.enum_top.specs.declared.why.Why.{Why}
+use Rattle.enum_top.specs.declared.objects.Object.{Object}
 use Rattle.enum_top.proofs.DoesLemmas.{ill_formed}
 
 -- the law that a text that is broken so far stays so
@@ -86,7 +86,7 @@ broken_left law old (Some rest) place bytes piece origin n fault parts first roo
     (inr (fault, subst (λ (o : Labels). ZoneBreaks ((bytes ++ piece) ++ drop n rest) o fault.line fault.why) root (law (bytes ++ piece) (drop n rest) origin fault.line fault.why broken), refl))
 
 -- a broken text stops the work
-pub text_refused : {A : Type 0} {Used : Object → Type 0} {One : Result A Cause → Type 0} (place : ℕ) (fault : TextFault) (why : Refusal) → Refuses place fault why → (fault.why ≢ text.Memory → One (Err (Text place fault))) → Does Used One (Err why)
+pub text_refused : {A : Type 0} {Used : Object → Type 0} {One : Result A Cause → Type 0} (place : ℕ) (fault : TextFault) (why : Why) → Refuses place fault why → (fault.why ≢ text.Memory → One (Err (Text place fault))) → Does Used One (Err why)
 text_refused place fault why (inl is) broken = rw is (record {
   went = λ v e. absurd (cc e);
   stopped = λ cause e. absurd (cc e);

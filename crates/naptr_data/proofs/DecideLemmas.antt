@@ -5,7 +5,7 @@ use Rattle.std.proofs.lemmas.Bool.Decides.{nat_tests}
 use Rattle.dns_name.specs.Name.{AreSame, IsBelow, folded_labels}
 use Rattle.naptr_data.specs.Zones.{Labels, Item, Owned, Zone, IsDelegated, Exists, Encloses}
 use Rattle.naptr_data.specs.Zones.Item.{rule, alias, delegation, other}
-use Rattle.naptr_data.proofs.CutLemmas.{Contains-none, Contains-head, Contains-behind, head_or_behind}
+use Rattle.naptr_data.proofs.CutLemmas.{Contains-none, Contains-head, Contains-after, head_or_after}
 use Rattle.naptr_data.proofs.BelowLemmas.{below_end, below_same_top, below_itself, below_trans, below_more}
 
 -- a fact or its opposite
@@ -61,14 +61,14 @@ one_or_none P each [] = inr none
 one_or_none P each (o ∷ items) = both (each o) (one_or_none P each items)
   where
     neither : (P o → ⊥) → (HasOne P items → ⊥) → HasOne P (o ∷ items) → ⊥
-    neither not not' (x, c, p) = elim (head_or_behind o items x c) [
+    neither not not' (x, c, p) = elim (head_or_after o items x c) [
       | inl here ↦ not (subst P here p)
-      | inr behind ↦ not' (x, behind, p)
+      | inr after ↦ not' (x, after, p)
     ]
 
     both : Either (P o) → Either (HasOne P items) → Either (HasOne P (o ∷ items))
     both (inl p) h = inl (o, Contains-head o items, p)
-    both (inr not) (inl (x, c, p)) = inl (x, Contains-behind o items x c, p)
+    both (inr not) (inl (x, c, p)) = inl (x, Contains-after o items x c, p)
     both (inr not) (inr not') = inr (neither not not')
 
 pub exists_or_not : (zone : Zone) (name : Labels) → Either (Exists zone name)
@@ -95,7 +95,8 @@ is_delegation other = inr (λ e. cc)
 delegates_or_not : (apex name : Labels) (o : Owned) → Either (Delegates apex name o)
 delegates_or_not apex name o = all (is_delegation o.item) (below_or_not name o.owner) (below_or_not o.owner apex) (same_or_not o.owner apex)
   where
-    all : Either (o.item ≡ delegation) → Either (IsBelow name o.owner) → Either (IsBelow o.owner apex) → Either (AreSame o.owner apex) → Either (Delegates apex name o)
+    all : Either (o.item ≡ delegation) → Either (IsBelow name o.owner) → Either (IsBelow o.owner apex)
+        → Either (AreSame o.owner apex) → Either (Delegates apex name o)
     all (inl item) (inl below) (inl inside) (inr lower) = inl (record { item = item; below = below; inside = inside; lower = lower })
     all (inr not) b c d = inr (λ h. not h.item)
     all (inl item) (inr not) c d = inr (λ h. not h.below)
@@ -118,7 +119,8 @@ delegated_or_not zone name = both (one_or_none (Delegates zone.apex name) (deleg
     both (inr not) = inr (λ d. not (there d))
 
 -- a name that does not exist, above which one does, has a closest encloser
-enclosed : (zone : Zone) (front back : Labels) → Exists zone back → IsBelow back zone.apex → ¬ Exists zone (front ++ back) → (encloser : Labels) × Encloses zone (front ++ back) encloser
+enclosed : (zone : Zone) (front back : Labels) → Exists zone back → IsBelow back zone.apex
+    → ¬ Exists zone (front ++ back) → (encloser : Labels) × Encloses zone (front ++ back) encloser
 enclosed zone [] back here inside not = absurd (not here)
 enclosed zone (label ∷ front) back here inside not = next (λ none. enclosed zone front back here inside none) (exists_or_not zone (front ++ back))
   where
@@ -135,7 +137,8 @@ enclosed zone (label ∷ front) back here inside not = next (λ none. enclosed z
       },
     )
 
-    next : (¬ Exists zone (front ++ back) → (encloser : Labels) × Encloses zone (front ++ back) encloser) → Either (Exists zone (front ++ back)) → (encloser : Labels) × Encloses zone (label ∷ (front ++ back)) encloser
+    next : (¬ Exists zone (front ++ back) → (encloser : Labels) × Encloses zone (front ++ back) encloser)
+        → Either (Exists zone (front ++ back)) → (encloser : Labels) × Encloses zone (label ∷ (front ++ back)) encloser
     next again (inl exists) = (
       front ++ back,
       record {

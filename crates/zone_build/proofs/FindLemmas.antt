@@ -189,14 +189,17 @@ set_made records places kind from end set c are other f e is = record {
   where
     owner : Labels
     owner = owner_at records places.first
+
     ordered : from ≤ end
     ordered = starts_in_order records places kind from end f e
+
     front_none : (r : Record) (k : ℕ) → k < from → StandsAt records r k → ¬ IsIn owner kind r
     front_none r zero l s i = other (sym i.1 ∙ sym s.kind ∙ (soa_first records c).1)
     front_none r (suc k) l s i = elim (before_or_from (suc k) places.first) [
       | inl h ↦ are.before (suc k) (omega arith) h (sym (ap folded_labels s.owner ∙ i.0))
       | inr h ↦ let less = f.less (suc k) h l in let same = s.kind in let of = i.1 in omega arith
     ]
+
     back_none : (r : Record) (k : ℕ) → end ≤ k → StandsAt records r k → ¬ IsIn owner kind r
     back_none r k l s i = elim (before_or_from k places.end) [
       | inl h ↦ let more = e.not_less k l h in let same = s.kind in let of = i.1 in omega arith
@@ -275,9 +278,9 @@ least_cases kind = grind (arith, nat_tests)
 pub least_at : (records : List Record) (owner : Labels) (places : Places) (is_apex : Bool) → IsCanonical records → ArePlaces records places → AreSame (owner_at records places.first) owner → (is_apex ≡ true → AreSame (owner_at records 0) owner) → (AreSame (owner_at records 0) owner → is_apex ≡ true) → IsLeastKindAt records owner (Some (least_kind_with is_apex (kind_at records places.first)))
 least_at records owner places false c are same apex not = (
   let s = are.some in
-  let w = are.within in
-  let f = record_at records places.first (omega arith) in
-  (f.0, f.1, ap folded_labels (sym f.3) ∙ same, sym f.4),
+      let w = are.within in
+      let f = record_at records places.first (omega arith) in
+      (f.0, f.1, ap folded_labels (sym f.3) ∙ same, sym f.4),
   λ r k of. let g = stands records r k in at r g.0 g.1 of,
 )
   where
@@ -287,15 +290,15 @@ least_at records owner places false c are same apex not = (
 least_at records owner places true c are same apex not = elim (least_cases (kind_at records places.first)) [
   | inl own ↦ (
     let s = are.some in
-    let w = are.within in
-    let f = record_at records places.first (omega arith) in
-    (f.0, f.1, ap folded_labels (sym f.3) ∙ same, sym f.4 ∙ sym own.0),
+        let w = are.within in
+        let f = record_at records places.first (omega arith) in
+        (f.0, f.1, ap folded_labels (sym f.3) ∙ same, sym f.4 ∙ sym own.0),
     λ r k of. let g = stands records r k in let e = own.0 in let l = own.1 in let m = at r g.0 g.1 of in omega arith,
   )
   | inr start ↦ (
     let w = (soa_first records c).0 in
-    let f = record_at records 0 w in
-    (f.0, f.1, ap folded_labels (sym f.3) ∙ apex refl, sym f.4 ∙ (soa_first records c).1 ∙ sym start.0),
+        let f = record_at records 0 w in
+        (f.0, f.1, ap folded_labels (sym f.3) ∙ apex refl, sym f.4 ∙ (soa_first records c).1 ∙ sym start.0),
     λ r k of. let g = stands records r k in let e = start.0 in let l = start.1 in let m = at r g.0 g.1 of in omega arith,
   )
 ]
@@ -313,8 +316,8 @@ least_at records owner places true c are same apex not = elim (least_cases (kind
 pub least_alone : (records : List Record) (index : Indexed) (owner : Labels) → IsCanonical records → FindsOwners records index → NoneMeets At records owner (candidates index (key_of owner)) → AreSame (owner_at records 0) owner → IsLeastKindAt records owner (Some soa)
 least_alone records index owner c finds none same = (
   let w = (soa_first records c).0 in
-  let f = record_at records 0 w in
-  (f.0, f.1, ap folded_labels (sym f.3) ∙ same, sym f.4 ∙ (soa_first records c).1),
+      let f = record_at records 0 w in
+      (f.0, f.1, ap folded_labels (sym f.3) ∙ same, sym f.4 ∙ (soa_first records c).1),
   λ r k of. let g = stands records r k in at r g.0 g.1 of,
 )
   where

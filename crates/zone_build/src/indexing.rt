@@ -16,11 +16,7 @@ use std::alloc::Global;
 use std::cmp::Ordering;
 
 /// The index of the records, whose SOA is at the apex.
-pub(crate) fn index_of(
-    alloc: Global,
-    records: &[Record],
-    apex: &Name,
-) -> Result<Index, MemoryFault>
+pub(crate) fn index_of(alloc: Global, records: &[Record], apex: &Name) -> Result<Index, MemoryFault>
     requires { IsCanonical records.now }
     ensures { IfOk result (IsIndex records.now apex.now) }
 {

@@ -6,6 +6,7 @@ use dns_name::Name;
 use enum_base::fold_byte;
 
 pub(crate) const FIRST: u128 = 0x6c62272e07bb014262b821756295c58d;
+
 pub(crate) const FACTOR: u128 = 0x2360ed051fc65da44385df649fccf645;
 
 /// The key of a name, compared folded: half of a state of 128 bits into which its wire bytes are mixed.

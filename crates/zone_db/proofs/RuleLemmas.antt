@@ -4,7 +4,7 @@ use Rattle.std.specs.Prelude.{Contains, ◌↔◌}
 use Rattle.std.specs.List.{AllByRecursion}
 use Rattle.std.specs.declared.cmp.Ordering.TheVariants.{Less}
 use Rattle.std.specs.Ordering.{nat_cmp, ordering_then}
-use Rattle.std.proofs.lemmas.Cmp.{nat_cmp_total, tied_itself}
+use Rattle.std.proofs.lemmas.Cmp.{nat_cmp_total, nat_list_cmp_total, tied_itself}
 use Rattle.std.proofs.lemmas.List.{take_more, take_all, take-append-drop}
 use Rattle.std.proofs.lemmas.List.Elements.{Contains-append_left, Contains-append_right, Contains-append_cases, Contains-get_or}
 use Rattle.naptr_data.proofs.CutLemmas.{Contains-head, Contains-after, Contains-none, head_or_after}
@@ -12,16 +12,15 @@ use Rattle.naptr_rule.specs.Rank.{rank_of}
 use Rattle.naptr_rule.specs.Rdata.{IsRule, rdata}
 use Rattle.naptr_data.specs.Zones.{Labels, IsRising}
 use Rattle.naptr_rule.specs.declared.rule.Naptr.{Naptr}
-use Rattle.dns_wire.specs.Kinds.{soa}
+use Rattle.dns_name.specs.Name.{folded_labels, wire_of}
 use Rattle.dns_wire.specs.Rdata.{rdata_of}
 use Rattle.dns_wire.specs.declared.content.Content.{Content}
 use Rattle.dns_wire.specs.declared.content.Content.TheVariants as content
 use Rattle.dns_wire.specs.declared.record.Record.{Record}
 use Rattle.zone_build.specs.Zone.{AreOneSet, IsCanonical, IsIn, IsSet, order_of, owner_order}
 use Rattle.zone_build.specs.Zone as zone
-use Rattle.zone_build.specs.declared.key.Key.TheVariants.{Owner}
 use Rattle.zone_build.proofs.ListLemmas.{AllByRecursion-contains, AllByRecursion-made, only_one}
-use Rattle.zone_build.proofs.OrderLemmas.{bytes_cmp, alike_equal}
+use Rattle.zone_build.proofs.OrderLemmas.{bytes_cmp}
 use Rattle.zone_build.proofs.RdataLemmas.{rank_is_rdata}
 use Rattle.zone_db.specs.LookUp.{AreRulesOf}
 use Rattle.zone_db.specs.Offering.{IsPushed, RdataRises}
@@ -29,7 +28,7 @@ use Rattle.zone_db.specs.Offering.{IsPushed, RdataRises}
 -- RDATA of records of one set
 rdata_less : (x y : Record) → AreOneSet x y → order_of x y ≡ Less → bytes_cmp (rdata_of x.content) (rdata_of y.content) ≡ Less
 rdata_less x y a less =
-    sym (ap (λ o. ordering_then o (ordering_then (nat_cmp x.kind y.kind) (bytes_cmp (rdata_of x.content) (rdata_of y.content)))) (alike_equal Owner x y a.0)
+    sym (ap (λ o. ordering_then o (ordering_then (nat_cmp x.kind y.kind) (bytes_cmp (rdata_of x.content) (rdata_of y.content)))) (ap (λ n. bytes_cmp (wire_of (folded_labels x.owner)) (wire_of n)) (sym a.0) ∙ tied_itself nat_list_cmp_total (wire_of (folded_labels x.owner)))
     ∙ ap (λ o. ordering_then o (bytes_cmp (rdata_of x.content) (rdata_of y.content))) (ap (nat_cmp x.kind) (sym a.1) ∙ tied_itself nat_cmp_total x.kind))
     ∙ less
 

@@ -1,7 +1,7 @@
 use Rattle.std.proofs.Common.{◌∙◌, refl}
 use Rattle.enum_base.specs.Stages.Then.{goes, stops}
 use Rattle.enum_top.proofs.DoesLemmas.{done, got, passed, stopped_by, unblamed}
-use Rattle.enum_top.proofs.FileLoops.{all_read, one_read, stopped_next, same_shelf}
+use Rattle.enum_top.proofs.FileLoopLemmas.{all_read, one_read, stopped_next, same_shelf}
 use Rattle.enum_top.proofs.zones.read_zones.Goals as goal
 
 pub returns-in_err-zone-clause-does : goal.returns-in_err-zone-clause-does

@@ -12,7 +12,7 @@ meets-requires c =
     let key = key_of c.args.name.now in
     let one = c.in-Some.one.now in
     let is : lookup (nat_eq key) c.args.self.now.entries ≡ Some one =
-            subst (λ (i : Indexed). lookup (nat_eq key) i.entries ≡ Some one) c.self.view_is (subst (λ k. lookup (nat_eq k) c.self.inside.map.entries ≡ Some one) c.key_of.ensures (sym c.in-Some.ensures.value)) in
+    subst (λ (i : Indexed). lookup (nat_eq key) i.entries ≡ Some one) c.self.view_is (subst (λ k. lookup (nat_eq k) c.self.inside.map.entries ≡ Some one) c.key_of.ensures (sym c.in-Some.ensures.value)) in
     let p = c.requires key one (in_map c.args.self.now key one is) in
     let s = p.some in
     let w = p.within in
@@ -38,7 +38,7 @@ returns-clause-none c =
     let key = key_of c.args.name.now in
     let index = c.args.self.now in
     let at : lookup (nat_eq c.key_of.result) c.self.inside.map.entries ≡ lookup (nat_eq key) index.entries =
-            ap (λ k. lookup (nat_eq k) c.self.inside.map.entries) c.key_of.ensures ∙ ap (λ (i : Indexed). lookup (nat_eq key) i.entries) c.self.view_is in
+    ap (λ k. lookup (nat_eq k) c.self.inside.map.entries) c.key_of.ensures ∙ ap (λ (i : Indexed). lookup (nat_eq key) i.entries) c.self.view_is in
     none_map (NoneMeets c.args.sought c.args.records.now c.args.name.now c.as_slice.result.now) (NoneMeets c.args.sought c.args.records.now c.args.name.now (candidates index key))
     (none_in_both c.args.sought c.args.records.now c.args.name.now index key c.as_slice.result.now (c.as_slice.ensures.value ∙ ap (λ (i : Indexed). i.rest) c.self.view_is)
     (λ one is m. elim c.match-get.branch [
