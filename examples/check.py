@@ -186,7 +186,7 @@ def missing_of(blocks):
             text = "".join(f": {line}".rstrip() + "\n" for line in (TOP / name).read_text().splitlines())
             if f"file {name}\n{text}" not in transcript:
                 yield f"{block.place}: {name}"
-        for words in re.findall(r"^enumd (resolve [^;\n]*)", block.commands, re.M):
+        for words in re.findall(r"^enumd (resolve [^;\n]*)", re.sub(r" *\\\n *", " ", block.commands), re.M):
             if "run " + "|".join(shlex.split(words)) not in lines:
                 yield f"{block.place}: {words}"
         for line in block.printed.splitlines():

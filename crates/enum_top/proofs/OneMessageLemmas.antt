@@ -38,4 +38,6 @@ IsSingle-messages laws bytes = record { same = same }
 
 pub IsSingle-shows : AreMessageLaws → (input : List ℕ) → IsSingle (Shows (Some input))
 IsSingle-shows laws input =
-    IsSingle-then _ _ (IsSingle-is _) (λ text. IsSingle-then _ _ (IsSingle-digits (digits_in text)) (λ bytes. IsSingle-then _ _ (IsSingle-messages laws bytes) (λ message. IsSingle-is _)))
+    IsSingle-then _ _ (IsSingle-is _)
+    (λ text. IsSingle-then _ _ (IsSingle-digits (digits_in text))
+    (λ bytes. IsSingle-then _ _ (IsSingle-messages laws bytes) (λ message. IsSingle-is _)))

@@ -17,8 +17,10 @@ use Rattle.enum_base.proofs.StageLemmas.{IsSingle, IsSingle-is, IsSingle-then}
 -- the laws of zone texts and of zones
 pub record AreLaws : Type 0 where
   pub one_text : (bytes : List ℕ) (origin : Labels) (one other : List Record) → ZoneSays bytes origin one → ZoneSays bytes origin other → one ≡ other
-  pub one_break : (bytes : List ℕ) (origin : Labels) (line other : ℕ) (why reason : TextWhy) → ZoneBreaks bytes origin line why → ZoneBreaks bytes origin other reason → (line ≡ other) × (why ≡ reason)
-  pub no_break : (bytes : List ℕ) (origin : Labels) (records : List Record) (line : ℕ) (why : TextWhy) → ZoneSays bytes origin records → ZoneBreaks bytes origin line why → ⊥
+  pub one_break : (bytes : List ℕ) (origin : Labels) (line other : ℕ) (why reason : TextWhy)
+      → ZoneBreaks bytes origin line why → ZoneBreaks bytes origin other reason → (line ≡ other) × (why ≡ reason)
+  pub no_break : (bytes : List ℕ) (origin : Labels) (records : List Record) (line : ℕ) (why : TextWhy)
+      → ZoneSays bytes origin records → ZoneBreaks bytes origin line why → ⊥
   pub one_zone : RecordsMakeOneZone
   pub one_fault : RecordsHaveOneFault
   pub no_fault : BuiltRecordsHaveNoFault
@@ -62,7 +64,11 @@ IsSingle-adds laws place zones zone = record { same = same }
     same r s (inr (one, has, known, is)) (inr (other, has', known', is')) =
         is ∙ ap (λ f. Err (cause.Set place f)) (laws.one_reason zones zone one other has has') ∙ sym is'
 
-pub IsSingle-from : AreLaws → (files : List File) (words : List (List ℕ)) (zones : List Zone) (places : List ℕ) → IsSingle (ZonesFrom (Some files) words zones places)
+pub IsSingle-from : AreLaws → (files : List File) (words : List (List ℕ)) (zones : List Zone) (places : List ℕ)
+    → IsSingle (ZonesFrom (Some files) words zones places)
 IsSingle-from laws files words zones [] = IsSingle-is _
 IsSingle-from laws files words zones (place ∷ places) =
-    IsSingle-then _ _ (IsSingle-then _ _ (IsSingle-then _ _ (IsSingle-then _ _ (IsSingle-is _) (λ bytes. IsSingle-texts laws place bytes)) (λ records. IsSingle-builds laws place records)) (λ zone. IsSingle-adds laws place zones zone)) (λ more. IsSingle-from laws files words more places)
+    IsSingle-then _ _ (IsSingle-then _ _
+    (IsSingle-then _ _ (IsSingle-then _ _ (IsSingle-is _) (λ bytes. IsSingle-texts laws place bytes))
+    (λ records. IsSingle-builds laws place records)) (λ zone. IsSingle-adds laws place zones zone))
+    (λ more. IsSingle-from laws files words more places)

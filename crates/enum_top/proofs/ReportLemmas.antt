@@ -27,11 +27,14 @@ abbrev pub HasOneReport : Type 0
 HasOneReport = (c : Client) (zones : List Zone) (key : Labels) (xs ys : List End) → IsReport c zones key xs → IsReport c zones key ys → xs ≡ ys
 
 abbrev pub HasOneLoop : Type 0
-HasOneLoop = (c : Client) (zones : List Zone) (key : Labels) (ls ms : List ℕ) (ds es : List Labels) (d e : Labels) → IsLeastLoop (graph_of c zones) key ls ds d → IsLeastLoop (graph_of c zones) key ms es e → (ls ≡ ms) × (ds ≡ es) × (d ≡ e)
+HasOneLoop = (c : Client) (zones : List Zone) (key : Labels) (ls ms : List ℕ) (ds es : List Labels) (d e : Labels)
+    → IsLeastLoop (graph_of c zones) key ls ds d → IsLeastLoop (graph_of c zones) key ms es e
+    → (ls ≡ ms) × (ds ≡ es) × (d ≡ e)
 
 -- .. and the one that follows
 abbrev pub HasOneText : Type 0
-HasOneText = (c : Client) (zones : List Zone) (key : Labels) (one other : Report) → Answers c zones key one → Answers c zones key other → printed_as one ≡ printed_as other
+HasOneText = (c : Client) (zones : List Zone) (key : Labels) (one other : Report) → Answers c zones key one
+    → Answers c zones key other → printed_as one ≡ printed_as other
 
 pub one_text : HasOneReport → HasOneLoop → HasOneText
 one_text reports loops c zones key (Ends xs) (Ends ys) a b = ap (λ es. printed_as (Ends es)) (reports c zones key xs ys a.0 b.0)

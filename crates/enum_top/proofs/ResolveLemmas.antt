@@ -30,7 +30,9 @@ IsSingle-reports law app inquiry zones = record { same = same }
 
 IsSingle-resolves : AreLaws → HasOneText → (files : List File) (words : List (List ℕ)) (asked : Resolution) → IsSingle (Resolves (Some files) words asked)
 IsSingle-resolves laws law files words asked =
-    IsSingle-then _ _ (IsSingle-asks words asked.app asked.string asked.want asked.apex) (λ inquiry. IsSingle-then _ _ (IsSingle-from laws files words [] (files_of asked.origin)) (λ zones. IsSingle-reports law asked.app inquiry zones))
+    IsSingle-then _ _ (IsSingle-asks words asked.app asked.string asked.want asked.apex)
+    (λ inquiry. IsSingle-then _ _ (IsSingle-from laws files words [] (files_of asked.origin))
+    (λ zones. IsSingle-reports law asked.app inquiry zones))
 
 pub told_is : {A : Type 0} (told : Option A) → IsSome told → (value : A) × (told ≡ Some value)
 told_is None some = absurd (cc some)
@@ -38,7 +40,10 @@ told_is (Some value) some = (value, refl)
 
 pub IsSound-resolve : Laws → (words : List (List ℕ)) (asked : Resolution) → IsSound (resolve_work words asked)
 IsSound-resolve laws words asked =
-    IsSound-at_once (λ told. Resolves told.files words asked) (resolve_work words asked).breaks (resolve_work words asked).uses (resolve_work words asked).fronts
-    (λ told seen. let files = told_is told.files (seen.on_shelf refl) in subst (λ (fs : Option (List File)). IsSingle (Resolves fs words asked)) (sym files.1) (IsSingle-resolves laws.one_zones laws.one_text files.0 words asked))
+    IsSound-at_once (λ told. Resolves told.files words asked) (resolve_work words asked).breaks
+    (resolve_work words asked).uses (resolve_work words asked).fronts
+    (λ told seen. let files = told_is told.files (seen.on_shelf refl)
+    in subst (λ (fs : Option (List File)). IsSingle (Resolves fs words asked)) (sym files.1)
+    (IsSingle-resolves laws.one_zones laws.one_text files.0 words asked))
     (λ told. IsTotal-resolves laws.some_zones laws.some_report laws.rules_apart told.files words asked)
     (λ told cause broken. stops cause broken refl)

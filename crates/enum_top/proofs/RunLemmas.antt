@@ -19,7 +19,8 @@ use Rattle.enum_top.specs.declared.why.Why.{Why}
 use Rattle.enum_top.specs.declared.why.Why.TheVariants.{Usage, Judged, Outside, Memory}
 
 -- the words come to this verdict, and they mean this request
-answers_of : (told : Told) (words : List (List ℕ)) (asked : Request) (verdict : Verdict) → Means words asked → ComesTo told words verdict → (work_of words asked).answers told verdict
+answers_of : (told : Told) (words : List (List ℕ)) (asked : Request) (verdict : Verdict) → Means words asked
+    → ComesTo told words verdict → (work_of words asked).answers told verdict
 answers_of told words asked verdict means c =
     subst (λ (r : Request). (work_of words r).answers told verdict) (one_request words c.asked asked c.means means) c.answers
 
@@ -30,9 +31,15 @@ uses_of words asked object means (other, other_means, used) =
 
 -- the law that over told objects a request comes to one verdict
 abbrev pub HasOneVerdict : Type 0
-HasOneVerdict = (told : Told) (words : List (List ℕ)) (asked : Request) (one other : Verdict) → AreTold (work_of words asked) told → (work_of words asked).answers told one → (work_of words asked).answers told other → one ≡ other
+HasOneVerdict = (told : Told) (words : List (List ℕ)) (asked : Request) (one other : Verdict)
+    → AreTold (work_of words asked) told → (work_of words asked).answers told one
+    → (work_of words asked).answers told other → one ≡ other
 
-module _ (told : Told) (words : List (List ℕ)) (out out' err err' : SinkState) (end : Status) (runs : Runs told words out out' end) (line : (why : Why) → end ≡ Refused why → Takes err err' (line_of words why)) (asked : Request) (means : Means words asked) (calm : (object : Object) → (work_of words asked).uses object → end ≡ Refused (Outside object) → ⊥) (written : end ≡ Refused (Outside Output) → ⊥) where
+module _ (told : Told) (words : List (List ℕ)) (out out' err err' : SinkState) (end : Status)
+    (runs : Runs told words out out' end) (line : (why : Why) → end ≡ Refused why → Takes err err' (line_of words why))
+    (asked : Request) (means : Means words asked)
+    (calm : (object : Object) → (work_of words asked).uses object → end ≡ Refused (Outside object) → ⊥)
+    (written : end ≡ Refused (Outside Output) → ⊥) where
   failed : (object : Object) → end ≡ Refused (Outside object) → Need words object ⊎ (object ≡ Output) → ⊥
   failed object e (inl need) = calm object (uses_of words asked object means need) e
   failed object e (inr is) = written (subst (λ (o : Object). end ≡ Refused (Outside o)) is e)
@@ -40,7 +47,9 @@ module _ (told : Told) (words : List (List ℕ)) (out out' err err' : SinkState)
   pub ends_answered : ((verdict : Verdict) × (work_of words asked).answers told verdict × EndsWith words verdict end out out' err err') ⊎ (end ≡ Refused Memory)
   ends_answered = at end refl
     where
-      at : (status : Status) → end ≡ status → ((verdict : Verdict) × (work_of words asked).answers told verdict × EndsWith words verdict end out out' err err') ⊎ (end ≡ Refused Memory)
+      at : (status : Status) → end ≡ status
+          → ((verdict : Verdict) × (work_of words asked).answers told verdict
+          × EndsWith words verdict end out out' err err') ⊎ (end ≡ Refused Memory)
       at (Ended ending) e =
           let found = runs.printed ending e in
           inl (prints ending found.0, answers_of told words asked (prints ending found.0) means found.1, (e, found.2))
@@ -51,15 +60,22 @@ module _ (told : Told) (words : List (List ℕ)) (out out' err err' : SinkState)
       at (Refused (Outside object)) e = absurd (failed object e (runs.failed object e))
       at (Refused Memory) e = inr e
 
-  pub ends_always : HasOneVerdict → (verdict : Verdict) → AreTold (work_of words asked) told → (work_of words asked).answers told verdict → EndsWith words verdict end out out' err err' ⊎ (end ≡ Refused Memory)
+  pub ends_always : HasOneVerdict → (verdict : Verdict) → AreTold (work_of words asked) told
+      → (work_of words asked).answers told verdict
+      → EndsWith words verdict end out out' err err' ⊎ (end ≡ Refused Memory)
   ends_always law verdict seen h = at ends_answered
     where
-      at : ((other : Verdict) × (work_of words asked).answers told other × EndsWith words other end out out' err err') ⊎ (end ≡ Refused Memory) → EndsWith words verdict end out out' err err' ⊎ (end ≡ Refused Memory)
+      at : ((other : Verdict) × (work_of words asked).answers told other × EndsWith words other end out out' err err')
+          ⊎ (end ≡ Refused Memory) → EndsWith words verdict end out out' err err' ⊎ (end ≡ Refused Memory)
       at (inl (other, a, ends)) = inl (subst (λ (v : Verdict). EndsWith words v end out out' err err') (law told words asked other verdict seen a h) ends)
       at (inr wanting) = inr wanting
 
 -- no object that is used failed
-pub calm_objects : (Used : Object → Type 0) (end : Status) (shelf shelf' input input' out out' : ℕ) → (Used Shelf → Rose shelf shelf' → ⊥) → (Used Input → Rose input input' → ⊥) → (Rose out out' → ⊥) → Blames shelf shelf' (end ≡ Refused (Outside Shelf)) → Blames input input' (end ≡ Refused (Outside Input)) → Blames out out' (end ≡ Refused (Outside Output)) → (object : Object) → Used object → end ≡ Refused (Outside object) → ⊥
+pub calm_objects : (Used : Object → Type 0) (end : Status) (shelf shelf' input input' out out' : ℕ)
+    → (Used Shelf → Rose shelf shelf' → ⊥) → (Used Input → Rose input input' → ⊥) → (Rose out out' → ⊥)
+    → Blames shelf shelf' (end ≡ Refused (Outside Shelf)) → Blames input input' (end ≡ Refused (Outside Input))
+    → Blames out out' (end ≡ Refused (Outside Output)) → (object : Object) → Used object
+    → end ≡ Refused (Outside object) → ⊥
 calm_objects Used end shelf shelf' input input' out out' calm_shelf calm_input calm_out b d f Shelf used e = calm_shelf used (b.only e)
 calm_objects Used end shelf shelf' input input' out out' calm_shelf calm_input calm_out b d f Input used e = calm_input used (d.only e)
 calm_objects Used end shelf shelf' input input' out out' calm_shelf calm_input calm_out b d f Output used e = calm_out (f.only e)

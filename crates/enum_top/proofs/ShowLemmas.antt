@@ -12,6 +12,8 @@ use Rattle.enum_top.proofs.WorkLemmas.{IsSound-at_once}
 pub IsSound-show : Laws → IsSound show_work
 IsSound-show laws =
     IsSound-at_once (λ told. Shows told.input) show_work.breaks show_work.uses show_work.fronts
-    (λ told seen. let input = told_is told.input (seen.on_input refl) in subst (λ (bytes : Option (List ℕ)). IsSingle (Shows bytes)) (sym input.1) (IsSingle-shows laws.one_message input.0))
+    (λ told seen. let input = told_is told.input (seen.on_input refl)
+    in subst (λ (bytes : Option (List ℕ)). IsSingle (Shows bytes)) (sym input.1)
+    (IsSingle-shows laws.one_message input.0))
     (λ told. IsTotal-shows laws.some_message told.input)
     (λ told cause none. absurd none)

@@ -51,12 +51,14 @@ IsTotal-asks words app string want apex =
 abbrev pub HasReport : Type 0
 HasReport = (c : Client) (zones : List plain.Zone) (key : plain.Labels) → RulesAreApart zones → (report : Report) × walk.Answers c zones key report
 
-IsTotal-reports : HasReport → ToldRulesAreApart → (app : AppName) (inquiry : Inquiry) (zones : List Zone) → AllByRecursion IsValid zones → IsTotal (Reports app inquiry zones)
+IsTotal-reports : HasReport → ToldRulesAreApart → (app : AppName) (inquiry : Inquiry) (zones : List Zone)
+    → AllByRecursion IsValid zones → IsTotal (Reports app inquiry zones)
 IsTotal-reports some apart app inquiry zones valid =
     let r = some (client_for app inquiry) (told zones) (folded_labels inquiry.key) (apart zones valid) in
     record { result = Ok (printed_as r.0); comes = (r.0, r.1, refl) }
 
-pub IsTotal-resolves : AreTotal → HasReport → ToldRulesAreApart → (files : Option (List File)) (words : List (List ℕ)) (asked : Resolution) → IsTotal (Resolves files words asked)
+pub IsTotal-resolves : AreTotal → HasReport → ToldRulesAreApart
+    → (files : Option (List File)) (words : List (List ℕ)) (asked : Resolution) → IsTotal (Resolves files words asked)
 IsTotal-resolves laws some apart files words asked =
     IsTotal-then _ _ (IsTotal-asks words asked.app asked.string asked.want asked.apex) (λ inquiry read.
     IsTotal-then _ _ (IsTotal-zones laws files words [] (files_of asked.origin)) (λ zones come.

@@ -50,7 +50,8 @@ module _ (laws : AreTotal) where
   IsTotal-builds : (place : ℕ) (records : List Record) → ((one : Record) → Contains records one → IsPlain one) → IsTotal (Builds place records)
   IsTotal-builds place records plain = by (laws.zone records plain)
     where
-      by : ((zone : Zone) × IsBuilt records zone × IsValid zone) ⊎ ((f : ZoneFault) × (f ≢ fault.Memory) × IsZoneFault records f) → IsTotal (Builds place records)
+      by : ((zone : Zone) × IsBuilt records zone × IsValid zone)
+          ⊎ ((f : ZoneFault) × (f ≢ fault.Memory) × IsZoneFault records f) → IsTotal (Builds place records)
       by (inl (zone, built, valid)) = record { result = Ok zone; comes = inl (zone, built, valid, refl) }
       by (inr (f, known, is)) = record { result = Err (cause.Zone place f); comes = inr (f, is, known, refl) }
 
@@ -90,7 +91,8 @@ module _ (files : Option (List File)) (words : List (List ℕ)) where
   valid_next zones more place all (goes zone built (inr (f, has, known, is))) = absurd (cc is)
   valid_next zones more place all (stops cause stopped is) = absurd (cc is)
 
-  pub valid_zones : (zones more : List Zone) (places : List ℕ) → AllByRecursion IsValid zones → ZonesFrom files words zones places (Ok more) → AllByRecursion IsValid more
+  pub valid_zones : (zones more : List Zone) (places : List ℕ) → AllByRecursion IsValid zones
+      → ZonesFrom files words zones places (Ok more) → AllByRecursion IsValid more
   valid_zones zones more [] all is = let same : more ≡ zones = cc is in subst (λ zs. AllByRecursion IsValid zs) (sym same) all
   valid_zones zones more (place ∷ places) all (goes between next rest) =
       valid_zones between more places (valid_next zones between place all next) rest

@@ -15,7 +15,12 @@ one_whole : (Stages : Result Printed Cause → Type 0) → IsSingle Stages → (
 one_whole Stages single one other h k =
     h.is ∙ ap whole (single.same h.result k.result h.comes k.comes) ∙ sym k.is
 
-pub IsSound-at_once : (Stages : Told → Result Printed Cause → Type 0) (breaks : Cause → Type 0) (uses : Object → Type 0) (fronts : Told → List ℕ → Type 0) → ((told : Told) → AreTold (at_once Stages breaks uses fronts) told → IsSingle (Stages told)) → ((told : Told) → IsTotal (Stages told)) → ((told : Told) (cause : Cause) → breaks cause → Stages told (Err cause)) → IsSound (at_once Stages breaks uses fronts)
+pub IsSound-at_once : (Stages : Told → Result Printed Cause → Type 0) (breaks : Cause → Type 0)
+    (uses : Object → Type 0) (fronts : Told → List ℕ → Type 0)
+    → ((told : Told) → AreTold (at_once Stages breaks uses fronts) told → IsSingle (Stages told))
+    → ((told : Told) → IsTotal (Stages told))
+    → ((told : Told) (cause : Cause) → breaks cause → Stages told (Err cause))
+    → IsSound (at_once Stages breaks uses fronts)
 IsSound-at_once Stages breaks uses fronts single total early = record {
   single = λ told one other seen h k. one_whole (Stages told) (single told seen) one other h k;
   total = λ told. let t = total told in (whole t.result, record { result = t.result; comes = t.comes; is = refl });

@@ -16,7 +16,7 @@ ghost use Rattle.enum_top.specs.declared.cause.Cause.{Cause};
 ghost use Rattle.enum_top.specs.declared.status.Ending.{Ending};
 ghost use Rattle.enum_top.specs.declared.why.Why.{Why};
 
-use crate::commands::{resolve, show};
+use crate::commands;
 use crate::laws::one_verdict;
 use crate::objects::{Object, Objects};
 use crate::status::{Ending, Printed, Status};
@@ -107,7 +107,8 @@ fn run_inner<S: Shelf, I: Source, O: Sink, E: Sink>(
 ) -> Status
     ensures runs { Runs (told_by (S.state objects.old.shelf.now) (I.state objects.old.input.now)) (texts_of words.now)
         (O.state objects.old.out.now) (O.state objects.new.out.now) result }
-    ensures objects { Handles S.state I.state O.state (Need (texts_of words.now)) (λ object. result ≡ Status.Refused (Why.Outside object)) objects.old objects.new }
+    ensures objects { Handles S.state I.state O.state (Need (texts_of words.now))
+        (λ object. result ≡ Status.Refused (Why.Outside object)) objects.old objects.new }
     ensures untouched { (ending : Ending) → result ≡ Status.Ended ending → err.new ≡ err.old }
     ensures line { (why : Why) → result ≡ Status.Refused why
         → Takes (E.state err.old) (E.state err.new) (line_of (texts_of words.now) why) }
@@ -136,7 +137,8 @@ fn answer<S: Shelf, I: Source, O: Sink>(
 ) -> Status
     ensures runs { Runs (told_by (S.state objects.old.shelf.now) (I.state objects.old.input.now)) (texts_of words.now)
         (O.state objects.old.out.now) (O.state objects.new.out.now) result }
-    ensures objects { Handles S.state I.state O.state (Need (texts_of words.now)) (λ object. result ≡ Status.Refused (Why.Outside object)) objects.old objects.new }
+    ensures objects { Handles S.state I.state O.state (Need (texts_of words.now))
+        (λ object. result ≡ Status.Refused (Why.Outside object)) objects.old objects.new }
 {
     match read_words(words) {
         Ok(request) => print(alloc, words, &request, objects),
@@ -154,7 +156,8 @@ fn print<S: Shelf, I: Source, O: Sink>(
     requires { Means (texts_of words.now) request.now }
     ensures runs { Runs (told_by (S.state objects.old.shelf.now) (I.state objects.old.input.now)) (texts_of words.now)
         (O.state objects.old.out.now) (O.state objects.new.out.now) result }
-    ensures objects { Handles S.state I.state O.state (work_of (texts_of words.now) request.now).uses (λ object. result ≡ Status.Refused (Why.Outside object)) objects.old objects.new }
+    ensures objects { Handles S.state I.state O.state (work_of (texts_of words.now) request.now).uses
+        (λ object. result ≡ Status.Refused (Why.Outside object)) objects.old objects.new }
 {
     match text_of(alloc, words, request, objects) {
         Ok(printed) => match write_whole(objects.out, printed.text.as_slice()) {
@@ -173,11 +176,17 @@ fn text_of<S: Shelf, I: Source, O: Sink>(
     objects: &mut Objects<'_, '_, '_, S, I, O>,
 ) -> Result<Printed, Why>
     ensures does { DoesWork (told_by (S.state objects.old.shelf.now) (I.state objects.old.input.now)) (work_of (texts_of words.now) request.now) result }
-    ensures objects { Handles S.state I.state O.state (work_of (texts_of words.now) request.now).uses (λ object. IsErrOf result (Why.Outside object)) objects.old objects.new }
+    ensures objects { Handles S.state I.state O.state (work_of (texts_of words.now) request.now).uses
+        (λ object. IsErrOf result (Why.Outside object)) objects.old objects.new }
     ensures unwritten { objects.new.out.now ≡ objects.old.out.now }
 {
     match request {
-        Request::Resolve(asked) => resolve::resolve_text(alloc, words, asked, objects.shelf),
-        Request::Show => show::show_text(alloc, objects.input),
+        Request::Resolve(asked) => commands::resolve::resolve_text(
+            alloc,
+            words,
+            asked,
+            objects.shelf,
+        ),
+        Request::Show => commands::show::show_text(alloc, objects.input),
     }
 }

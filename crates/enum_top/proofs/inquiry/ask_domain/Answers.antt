@@ -11,4 +11,7 @@ returns-in-Err-read_wanted c =
 
 pub returns : goal.returns
 returns c =
-    λ apex. domain_whole _ _ c.requires _ _ apex _ (c.as_bytes.ensures.value ∙ c.text_at.ensures) _ _ _ _ c.in-Ok.ensures.fault c.in-Ok.ensures.text c.in-Ok-read_wanted.ensures c.aus.ensures.value c.key.ensures
+    λ apex. domain_whole _ _ c.requires _ _ apex _
+    (c.as_bytes.ensures.value
+    ∙ c.text_at.ensures) _ _ _ _ c.in-Ok.ensures.fault c.in-Ok.ensures.text c.in-Ok-read_wanted.ensures
+    c.aus.ensures.value c.key.ensures

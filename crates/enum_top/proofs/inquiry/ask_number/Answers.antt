@@ -11,8 +11,12 @@ returns-in-Err-read_wanted c =
 
 pub returns-in-Err-read_key : goal.returns-in-Err-read_key
 returns-in-Err-read_key c =
-    no_key _ _ _ _ _ (c.as_bytes.ensures.value ∙ c.text_at.ensures) _ _ _ _ c.in-Ok.ensures.string c.in-Ok.ensures.digits c.in-Ok-read_wanted.ensures c.in-Err-read_key.ensures
+    no_key _ _ _ _ _ (c.as_bytes.ensures.value
+    ∙ c.text_at.ensures) _ _ _ _ c.in-Ok.ensures.string c.in-Ok.ensures.digits c.in-Ok-read_wanted.ensures
+    c.in-Err-read_key.ensures
 
 pub returns : goal.returns
 returns c =
-    asked_whole _ _ _ _ _ (c.as_bytes.ensures.value ∙ c.text_at.ensures) _ _ _ _ _ c.in-Ok.ensures.string c.in-Ok.ensures.digits c.in-Ok-read_wanted.ensures c.in-Ok-read_key.ensures c.aus.ensures.value
+    asked_whole _ _ _ _ _ (c.as_bytes.ensures.value
+    ∙ c.text_at.ensures) _ _ _ _ _ c.in-Ok.ensures.string c.in-Ok.ensures.digits c.in-Ok-read_wanted.ensures
+    c.in-Ok-read_key.ensures c.aus.ensures.value

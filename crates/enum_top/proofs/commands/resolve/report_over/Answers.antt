@@ -7,4 +7,7 @@ use Rattle.enum_top.proofs.commands.resolve.report_over.Goals as goal
 
 pub unreachable-requires : goal.unreachable-requires
 unreachable-requires c =
-    no_more _ _ _ _ (c.rules_and_aliases-limit.ensures.count ∙ ap (λ (s : Asked). rules_and_aliases (told s.zones)) (sym c.new-source.ensures)) (c.needed_bound.ensures _ _ _) (c.in-Err-Limit.ensures.past c.in-Err-Limit.field-0-0 (ap Err c.in-Err-Limit.field-0-is))
+    no_more _ _ _ _ (c.rules_and_aliases-limit.ensures.count
+    ∙ ap (λ (s : Asked). rules_and_aliases (told s.zones)) (sym c.new-source.ensures))
+    (c.needed_bound.ensures _ _ _)
+    (c.in-Err-Limit.ensures.past c.in-Err-Limit.field-0-0 (ap Err c.in-Err-Limit.field-0-is))
