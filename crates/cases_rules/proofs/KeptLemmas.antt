@@ -1,5 +1,6 @@
 -- The names that are kept after one more ask.
-use Rattle.std.proofs.Common.{◌≡◌, ℕ, zero, suc, ◌+◌, ◌-◌, ◌≤◌, drop, get_or, ◌⊎◌, List, [], ◌∷◌, ◌++◌, length, take, refl, sym, ◌∙◌, ap, subst, inl, inr, arith, length-append}
+use Rattle.std.proofs.Common.{◌≡◌, ℕ, zero, suc, ◌+◌, ◌-◌, ◌≤◌, drop, get_or, ◌⊎◌, List, [], ◌∷◌, ◌++◌, length, take}
+use Rattle.std.proofs.Common.{refl, sym, ◌∙◌, ap, subst, inl, inr, arith, length-append}
 use Rattle.std.specs.Prelude.{◌↔◌, Contains, Bool, IsTrue}
 use Rattle.std.proofs.lemmas.List.Elements.{Contains-append_left, Contains-append_right, Contains-append_cases}
 use Rattle.std.proofs.lemmas.Str.Ascii.{lowercase-lowercase}
@@ -202,7 +203,8 @@ without_second kept first second name is e =
 
 -- rules rise where the first ranks before the others, and these rise
 pub rising_by : (rules : List Naptr) (one : Naptr) → 1 ≤ length rules → one ≡ get_or rules 0 one
-    → AllByRecursion (λ next. rank_of one next ≡ Less) (take (length rules - 1) (drop 1 rules)) → IsRising (take (length rules - 1) (drop 1 rules)) → IsRising rules
+    → AllByRecursion (λ next. rank_of one next ≡ Less) (take (length rules - 1) (drop 1 rules))
+    → IsRising (take (length rules - 1) (drop 1 rules)) → IsRising rules
 rising_by [] one some is after rising = absurd (omega (arith, some))
 rising_by (r ∷ rules) one some is after rising =
     let same : take (length (r ∷ rules) - 1) (drop 1 (r ∷ rules)) ≡ rules = take_rest (r ∷ rules) 1 in

@@ -1,5 +1,6 @@
 -- Each rule gives an edge, or none.
-use Rattle.std.proofs.Common.{◌≡◌, ◌⊎◌, inl, inr, ℕ, ◌<◌, ◌≤◌, ◌==◌, Bool, true, false, not, List, [], ◌∷◌, ◌++◌, length, Some, Result, Ok, Err, refl, ap, subst, arith}
+use Rattle.std.proofs.Common.{◌≡◌, ◌⊎◌, inl, inr, ℕ, ◌<◌, ◌≤◌, ◌==◌, Bool, true, false, not, List, [], ◌∷◌, ◌++◌}
+use Rattle.std.proofs.Common.{length, Some, Result, Ok, Err, refl, ap, subst, arith}
 use Rattle.std.proofs.lemmas.Bool.Decides.{nat_tests}
 use Rattle.std.proofs.lemmas.Bool.{eqb-true}
 use Rattle.std.proofs.lemmas.List.Sums.{list_all-from_AllPass, AllPass-from_list_all}
@@ -15,7 +16,8 @@ use Rattle.service_field.specs.declared.kind.Kind.{Kind}
 use Rattle.service_field.specs.declared.kind.Kind.TheVariants as kind
 use Rattle.subst_expr.specs.Laws.{OneOutput, OutputOrNone}
 use Rattle.subst_expr.specs.Output.{IsOutput}
-use Rattle.ddds_walk.specs.Rules.{Client, HasOutput, IsUri, HasRegexp, HasReplacement, GivesName, HasFields, HasServices, Yields, GivesAs, IsAdmissible, is_scheme_byte, is_visible}
+use Rattle.ddds_walk.specs.Rules.{Client, HasOutput, IsUri, HasRegexp, HasReplacement, GivesName, HasFields}
+use Rattle.ddds_walk.specs.Rules.{HasServices, Yields, GivesAs, IsAdmissible, is_scheme_byte, is_visible}
 use Rattle.ddds_walk.specs.declared.edge.Edge.{Edge}
 use Rattle.ddds_walk.specs.declared.edge.Edge.TheVariants.{Step, Stop}
 use Rattle.ddds_walk.specs.declared.report.Outcome.TheVariants.{Uri, Target, Unserved}

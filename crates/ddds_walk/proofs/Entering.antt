@@ -104,7 +104,8 @@ memory_counts limit t u asked asked' result h = record {
 
 refused_counts : {A B : Type 0} (limit : ℕ) (t u : SourceState) (asked asked' : List Labels) (e : WalkFault)
     → Counts {A = A} limit t u asked asked' (Err e) → Counts {A = B} limit t u asked asked' (Err e)
-refused_counts {A} {B} limit t u asked asked' (Limit n) h = record { once = h.once; few = h.few; asks = h.asks; kept = h.kept; met = λ m e. h.met m (limits m e) }
+refused_counts {A} {B} limit t u asked asked' (Limit n) h =
+    record { once = h.once; few = h.few; asks = h.asks; kept = h.kept; met = λ m e. h.met m (limits m e) }
   where
     limits : (m : ℕ) → ◌≡◌ {A = Result B WalkFault} (Err (Limit n)) (Err (Limit m)) → ◌≡◌ {A = Result A WalkFault} (Err (Limit n)) (Err (Limit m))
     limits m e = let f : Limit n ≡ Limit m = cc in ap Err f
@@ -117,7 +118,9 @@ module _ (c : Client) (limit : ℕ) (t u : SourceState) (w w' : Walker) (asked :
   -- what was asked is needed, with the domain of the edge or without
   some_needed : (w.asked ≡ asked) ⊎ (asked ≡ w.asked ++ next ∷ []) → w'.asked ≡ asked → AreDistinct asked
       → (zones : List Zone) (key : Labels) → IsAt c zones key w → AreSomeNeeded (graph_of c zones) key w'.asked
-  some_needed cases same once zones key s = subst (λ v. AreSomeNeeded (graph_of c zones) key v) (sym same) (record { once = once; only = λ d h. only cases d h })
+  some_needed cases same once zones key s =
+      subst (λ v. AreSomeNeeded (graph_of c zones) key v) (sym same)
+      (record { once = once; only = λ d h. only cases d h })
     where
       only : (w.asked ≡ asked) ⊎ (asked ≡ w.asked ++ next ∷ []) → (d : Labels) → Contains asked d → IsNeeded (graph_of c zones) key d
       only (inl e) d h = s.needed d (subst (λ v. Contains v d) (sym e) h)
@@ -151,7 +154,8 @@ module _ (c : Client) (limit : ℕ) (t u : SourceState) (w w' : Walker) (asked :
       limits : (n : ℕ) → ◌≡◌ {A = Result Turn WalkFault} (Err e) (Err (Limit n)) → ◌≡◌ {A = Result Offer WalkFault} (Err e) (Err (Limit n))
       limits n h = let f : e ≡ Limit n = cc in ap Err f
 
-      past : (zones : List Zone) (key : Labels) → IsAt c zones key w → (n : ℕ) → ◌≡◌ {A = Result Offer WalkFault} (Err e) (Err (Limit n)) → NeedsMore (graph_of c zones) key limit
+      past : (zones : List Zone) (key : Labels) → IsAt c zones key w → (n : ℕ)
+          → ◌≡◌ {A = Result Offer WalkFault} (Err e) (Err (Limit n)) → NeedsMore (graph_of c zones) key limit
       past zones key s n h =
           let m = a.counts.met n h in
           let l : length w.asked ≡ limit = ap length (sym (a.met n h)) ∙ m.1 in (

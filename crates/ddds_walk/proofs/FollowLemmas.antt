@@ -1,5 +1,7 @@
 -- Which rules are followed, as one pass over rising rules finds them.
-use Rattle.std.proofs.Common.{◌≡◌, ◌⊎◌, inl, inr, ℕ, zero, suc, ◌+◌, ◌<◌, ◌≤◌, List, [], ◌∷◌, ◌++◌, length, drop, get_or, Bool, true, false, IsTrue, MatchOption, Option, Some, None, refl, sym, ap, subst, ◌∙◌, arith}
+use Rattle.std.proofs.Common.{◌≡◌, ◌⊎◌, inl, inr, ℕ, zero, suc, ◌+◌, ◌<◌, ◌≤◌, List, [], ◌∷◌, ◌++◌, length, drop}
+use Rattle.std.proofs.Common.{get_or, Bool, true, false, IsTrue, MatchOption, Option, Some, None, refl, sym, ap, subst}
+use Rattle.std.proofs.Common.{◌∙◌, arith}
 use Rattle.std.specs.Prelude.{Contains, slice_get, ◌↔◌}
 use Rattle.std.specs.List.{AllByRecursion}
 use Rattle.std.specs.Ordering.{MatchOrdering, nat_cmp, ordering_then}
@@ -195,7 +197,8 @@ chosen_after c rule rest edges n t = record {
         let p = (t.followed.each r).0 h in
         (has_tail rest rule r p.0, p.1, λ other k a. least r p.2 other a (has_cons rest rule other k))
 
-    back : (r : Naptr) → Contains (rule ∷ rest) r × IsAdmissible c r × ((other : Naptr) → Contains (rule ∷ rest) other → IsAdmissible c other → r.order ≤ other.order)
+    back : (r : Naptr) → Contains (rule ∷ rest) r × IsAdmissible c r
+        × ((other : Naptr) → Contains (rule ∷ rest) other → IsAdmissible c other → r.order ≤ other.order)
         → (rule ≡ r) ⊎ Contains rest r → Contains t.chosen r
     back r h (inl e) = absurd (n (subst (λ v. IsAdmissible c v) (sym e) h.1))
     back r h (inr k) = (t.followed.each r).1 (k, h.1, λ other j a. h.2 other (has_tail rest rule other j) a)

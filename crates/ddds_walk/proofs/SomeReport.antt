@@ -1,5 +1,6 @@
 -- Over zones that offer something for every name a walk comes to an answer.
-use Rattle.std.proofs.Common.{◌≡◌, ◌⊎◌, inl, inr, ℕ, zero, suc, ◌+◌, ◌<◌, ◌≤◌, List, [], ◌∷◌, ◌++◌, length, map, drop, Option, Some, None, refl, ap, subst, ◌∙◌, arith, length-append}
+use Rattle.std.proofs.Common.{◌≡◌, ◌⊎◌, inl, inr, ℕ, zero, suc, ◌+◌, ◌<◌, ◌≤◌, List, [], ◌∷◌, ◌++◌, length, map, drop}
+use Rattle.std.proofs.Common.{Option, Some, None, refl, ap, subst, ◌∙◌, arith, length-append}
 use Rattle.std.specs.Prelude.{Contains, slice_get}
 use Rattle.std.specs.List.{sum_by}
 use Rattle.std.proofs.lemmas.List.Sums.{sum_by-append}
@@ -131,7 +132,8 @@ module _ (offers : ZonesMakeOneOffer) (one : OneOutput) (some : OutputOrNone) (c
       back on = by (least_in (graph_of c zones) key (path_of below ++ top.rank ∷ []) (domains_of below ++ top.domain ∷ []) (Some m) least)
         where
           least : IsLeastLoop (tree_of c zones (key ∷ [])) None (path_of below ++ top.rank ∷ []) (domains_of below ++ top.domain ∷ []) (Some m)
-          least = least_loop (tree_of c zones (key ∷ [])) (tree_is offers one c zones key) None s.done (map found_of ends) (path_of below) top.rank top.domain s.walked
+          least = least_loop (tree_of c zones (key ∷ [])) (tree_is offers one c zones key) None s.done
+              (map found_of ends) (path_of below) top.rank top.domain s.walked
               (domains_of below) (Some m) s.at_top.passes s.at_top.distinct
               (edge_steps c zones (key ∷ []) top.domain top.edges top.rank m s.at_top.tells e)
               (way_on c zones key asked ends below top s m on)

@@ -1,5 +1,6 @@
 -- What holds of a walk over any source, how its rest falls, and the turns that ask nobody.
-use Rattle.std.proofs.Common.{◌≡◌, ℕ, ◌+◌, ◌<◌, ◌≤◌, ◌⊎◌, List, [], ◌∷◌, ◌++◌, length, drop, filter_map, refl, sym, ◌∙◌, ap, subst, inl, inr, arith, suc, length-append}
+use Rattle.std.proofs.Common.{◌≡◌, ℕ, ◌+◌, ◌<◌, ◌≤◌, ◌⊎◌, List, [], ◌∷◌, ◌++◌, length, drop, filter_map, refl, sym, ◌∙◌}
+use Rattle.std.proofs.Common.{ap, subst, inl, inr, arith, suc, length-append}
 use Rattle.std.specs.Prelude.{Contains, Option, Some, None, IsSome, slice_get, get_or}
 use Rattle.std.specs.List.{AllByRecursion, sum_by}
 use Rattle.std.proofs.lemmas.List.{map-append, length-map, length-drop}
@@ -119,7 +120,14 @@ module _ (limit : ℕ) (w : Walker) (sound : IsSound limit w) where
       → HasMoved limit w (record w { below = lower; top = record f { rank = f.rank + 1 } }) On
   moved_leave lower f is none = record {
     asked = refl;
-    sound = record { once = sound.once; few = sound.few; below = past_front lower (f ∷ []) all; top = (omega (arith, past.0), past.1); way = way_front lower f w.top.domain (subst (λ v. IsWay (domains_of v ++ w.top.domain ∷ [])) is sound.way) };
+    sound = record {
+      once = sound.once;
+      few = sound.few;
+      below = past_front lower (f ∷ []) all;
+      top = (omega (arith, past.0), past.1);
+      way =
+          way_front lower f w.top.domain (subst (λ v. IsWay (domains_of v ++ w.top.domain ∷ [])) is sound.way);
+    };
     falls = λ _. falls;
     says = λ c zones key s. state_leave c zones key w.asked w.ends w.below w.top s lower f is none;
   }

@@ -40,7 +40,8 @@ pub domains_step : (frames : List Frame) (i : ℕ) (f : Frame) (old new : List L
 domains_step frames i f old new l e a b =
     b ∙ ap (λ v. v ++ option_to_list f.domain) a ∙ sym (options_push (domains_of (take i frames)) f.domain)
     ∙ ap (filter_map (λ (d : Option Labels). d)) (sym (map-append (λ (x : Frame). x.domain) (take i frames) (f ∷ [])))
-    ∙ ap (λ v. filter_map (λ (d : Option Labels). d) (domains_of v)) (sym (subst (λ v. take (i + 1) frames ≡ take i frames ++ v ∷ []) (sym e) (take_more frames i f l)))
+    ∙ ap (λ v. filter_map (λ (d : Option Labels). d) (domains_of v))
+    (sym (subst (λ v. take (i + 1) frames ≡ take i frames ++ v ∷ []) (sym e) (take_more frames i f l)))
 
 -- at the end of the frames
 pub domains_end : (items frames : List Frame) (i : ℕ) (old new after : List Labels) (top : Option Labels) (last : Labels)

@@ -1,5 +1,6 @@
 -- How a walk over told zones goes down to a domain, leaves one, and ends.
-use Rattle.std.proofs.Common.{◌≡◌, ◌↔◌, ℕ, zero, suc, ◌+◌, ◌≤◌, ◌⊎◌, List, [], ◌∷◌, ◌++◌, drop, map, filter_map, refl, sym, ◌∙◌, ap, subst, inl, inr, append_assoc, append-nil, arith}
+use Rattle.std.proofs.Common.{◌≡◌, ◌↔◌, ℕ, zero, suc, ◌+◌, ◌≤◌, ◌⊎◌, List, [], ◌∷◌, ◌++◌, drop, map, filter_map, refl}
+use Rattle.std.proofs.Common.{sym, ◌∙◌, ap, subst, inl, inr, append_assoc, append-nil, arith}
 use Rattle.std.proofs.lemmas.List.{map-append}
 use Rattle.std.specs.Prelude.{Contains, Option, Some, None, slice_get}
 use Rattle.std.proofs.lemmas.List.Elements.{Contains-append_left, Contains-push, Contains-push_cases}
@@ -189,7 +190,8 @@ module _ (c : Client) (zones : List Zone) (key : Labels) (asked : List Labels) (
         same_offer : (r : ℕ) (e : Edge) → IsEdge c zones m r e → IsEdgeOf c o r e
         same_offer r e (p, i, j) = let P : Offer → Type 0 = λ v. IsEdgeOf c v r e in subst P (s.offers zones m p o i offered) j
 
-        root : (zero ∷ drop 1 (path_of below ++ top.rank ∷ []) ≡ path_of below ++ top.rank ∷ []) × Leads (graph_of c zones) key (drop 1 (path_of below ++ top.rank ∷ [])) m
+        root : (zero ∷ drop 1 (path_of below ++ top.rank ∷ []) ≡ path_of below ++ top.rank ∷ [])
+            × Leads (graph_of c zones) key (drop 1 (path_of below ++ top.rank ∷ [])) m
         root = from_root c zones key (path_of below ++ top.rank ∷ []) m to_m
 
         marked : found_of it ≡ as_found (path_of below ++ top.rank ∷ []) (by_domain (Some m))
@@ -203,7 +205,9 @@ module _ (c : Client) (zones : List Zone) (key : Labels) (asked : List Labels) (
         found = record { cases = by adds }
           where
             by : ((o ≡ offer.Unserved) × (grown ≡ ends ++ it ∷ [])) ⊎ (((o ≡ offer.Unserved) → ⊥) × (grown ≡ ends))
-                → (IsOffer zones m offer.Unserved × (map found_of grown ≡ map found_of ends ++ as_found (path_of below ++ top.rank ∷ []) (by_domain (Some m)) ∷ []))
+                → (IsOffer zones m offer.Unserved
+                × (map found_of grown ≡ map found_of ends
+                ++ as_found (path_of below ++ top.rank ∷ []) (by_domain (Some m)) ∷ []))
                 ⊎ ((IsOffer zones m offer.Unserved → ⊥) × (map found_of grown ≡ map found_of ends))
             by (inl (u, e)) = inl (
               let P : Offer → Type 0 = λ v. IsOffer zones m v in subst P u offered,
@@ -229,8 +233,11 @@ module _ (c : Client) (zones : List Zone) (key : Labels) (asked : List Labels) (
           where
             by : Contains ends x ⊎ (it ≡ x) → IsEnd c zones key x
             by (inl k) = s.ends_are x k
-            by (inr f) = subst (λ v. IsEnd c zones key v) f
-                (subst (λ v. Leads (graph_of c zones) key v m) (sym ranks-is) root.1, (let P : Offer → Type 0 = λ v. IsOffer zones m v in subst P u offered), refl)
+            by (inr f) = subst (λ v. IsEnd c zones key v) f (
+              subst (λ v. Leads (graph_of c zones) key v m) (sym ranks-is) root.1,
+              (let P : Offer → Type 0 = λ v. IsOffer zones m v in subst P u offered),
+              refl,
+            )
 
         to : (d : Labels) → Contains asked d ⊎ (m ≡ d)
             → Contains s.done (Some d) ⊎ Contains (domains_of (below ++ top ∷ []) ++ Some m ∷ []) (Some d)

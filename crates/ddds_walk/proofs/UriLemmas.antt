@@ -70,7 +70,8 @@ scheme_plain u us h k =
 pub uri_cut : (bytes front back : List ℕ) → bytes ≡ front ++ 58 ∷ back → AllPass (λ b. not (b == 58)) front → IsUri bytes → IsScheme front × IsRest back
 uri_cut bytes front back e p u =
     let cut : (front ≡ u.first ∷ u.scheme) × (back ≡ u.rest) =
-    one_cut front back (u.first ∷ u.scheme) u.rest (list_all-from_AllPass plain front p) (scheme_plain u.first u.scheme u.letter u.scheme_bytes) (sym e ∙ u.parts) in (
+    one_cut front back (u.first ∷ u.scheme) u.rest (list_all-from_AllPass plain front p)
+    (scheme_plain u.first u.scheme u.letter u.scheme_bytes) (sym e ∙ u.parts) in (
       (u.first, u.scheme, cut.0, u.letter, u.scheme_bytes),
       (subst (λ r. 0 < length r) (sym cut.1) u.some, subst (λ r. AllPass is_visible r) (sym cut.1) u.visible),
     )

@@ -40,7 +40,13 @@ going_start offers outputs c key limit t = record {
   room = refl;
   lent = refl;
   later = omega arith;
-  sound = record { once = tt; few = omega arith; below = tt; top = (omega arith, record { few = omega arith; folded = key_folds key; root = λ e. no_stop }); way = tt };
+  sound = record {
+    once = tt;
+    few = omega arith;
+    below = tt;
+    top = (omega arith, record { few = omega arith; folded = key_folds key; root = λ e. no_stop });
+    way = tt;
+  };
   asks = refl;
   kept = kept_start t.room t.kept t.fetched;
   told = λ zones is. state_start offers outputs c zones (folded_labels key);

@@ -1,5 +1,6 @@
 -- Words for the turns of a walk, for the functions below `walk`.
-use Rattle.std.specs.Prelude.{◌≡◌, ◌↔◌, ◌⊎◌, ℕ, ◌+◌, ◌-◌, ◌*◌, ◌<◌, ◌≤◌, List, [], ◌∷◌, ◌++◌, length, drop, slice_get, Contains, Option, Some, None, IsSome, Result, Ok, Err, IfOk, OnOk, IsTrue}
+use Rattle.std.specs.Prelude.{◌≡◌, ◌↔◌, ◌⊎◌, ℕ, ◌+◌, ◌-◌, ◌*◌, ◌<◌, ◌≤◌, List, [], ◌∷◌, ◌++◌, length, drop, slice_get}
+use Rattle.std.specs.Prelude.{Contains, Option, Some, None, IsSome, Result, Ok, Err, IfOk, OnOk, IsTrue}
 use Rattle.std.specs.List.{AllByRecursion, sum_by}
 use Rattle.enum_base.specs.Causes.{Rose}
 use Rattle.enum_base.specs.Outside.{WhereTold}

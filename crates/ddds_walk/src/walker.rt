@@ -1,5 +1,6 @@
 //! A walk under way.
-ghost use Rattle.std.specs.Prelude.{◌≡◌, ◌≢◌, ◌↔◌, ◌≤◌, ◌<◌, ◌+◌, [], ◌∷◌, ◌++◌, length, slice_get, filter_map, option_to_list, Contains, IsTrue, Some, None, IfOk, OnOk};
+ghost use Rattle.std.specs.Prelude.{◌≡◌, ◌≢◌, ◌↔◌, ◌≤◌, ◌<◌, ◌+◌, [], ◌∷◌, ◌++◌, length, slice_get, filter_map};
+ghost use Rattle.std.specs.Prelude.{option_to_list, Contains, IsTrue, Some, None, IfOk, OnOk};
 ghost use Rattle.dns_name.specs.Name.{folded_labels};
 ghost use Rattle.naptr_data.specs.Sources.{AreDistinct, HasFewRules};
 ghost use Rattle.naptr_data.specs.declared.offer.Offer.TheVariants as Offer;

@@ -1,5 +1,7 @@
 -- Names that are the same, that lie below others, and their order.
-use Rattle.std.proofs.Common.{◌≡◌, ℕ, ◌+◌, ◌<◌, ◌≤◌, List, [], ◌∷◌, ◌++◌, length, drop, get_or, ◌↔◌, refl, sym, ◌∙◌, ap, subst, arith, append_assoc, length-append, add-one, drop-cons, Some, suc, min, inl, inr, ◌⊎◌, length-drop}
+use Rattle.std.proofs.Common.{◌≡◌, ℕ, ◌+◌, ◌<◌, ◌≤◌, List, [], ◌∷◌, ◌++◌, length, drop, get_or, ◌↔◌, refl, sym, ◌∙◌, ap}
+use Rattle.std.proofs.Common.{subst, arith, append_assoc, length-append, add-one, drop-cons, Some, suc, min, inl, inr}
+use Rattle.std.proofs.Common.{◌⊎◌, length-drop}
 use Rattle.std.proofs.lemmas.List.{length-map}
 use Rattle.std.proofs.lemmas.Bool.Decides.{nat_tests}
 use Rattle.std.proofs.lemmas.Slice.Eq.{bytes_eq-Decides}
@@ -22,7 +24,8 @@ wire_of-injective a b each others e = sym (labels_of-wire_of a each) ∙ ap labe
 -- names are the same where their wire forms are equal but for case
 same_by_wires : (one other : List (List ℕ)) → IsName one → IsName other → (folded (wire_of one) ≡ folded (wire_of other)) ↔ AreSame one other
 same_by_wires one other n m = (
-  λ e. wire_of-injective (folded_labels one) (folded_labels other) (IsName-folded one n).each (IsName-folded other m).each (sym (folded-wire_of one n.each) ∙ e ∙ folded-wire_of other m.each),
+  λ e. wire_of-injective (folded_labels one) (folded_labels other) (IsName-folded one n).each
+      (IsName-folded other m).each (sym (folded-wire_of one n.each) ∙ e ∙ folded-wire_of other m.each),
   λ same. folded-wire_of one n.each ∙ ap wire_of same ∙ sym (folded-wire_of other m.each),
 )
 
@@ -67,7 +70,9 @@ end_of : (label : List ℕ) (front back : List (List ℕ)) → IsName (label ∷
 end_of label front back h =
     let whole : length (wire_of (front ++ back)) ≡ length (flat_map label_wire front) + length (wire_of back) = ap length (sym (wire_of-append front back))
     ∙ length-append (flat_map label_wire front) (wire_of back) in
-    let first : length (wire_of (label ∷ front ++ back)) ≡ length (label_wire label) + length (wire_of (front ++ back)) = ap length (append_assoc (label_wire label) (flat_map label_wire (front ++ back)) (0 ∷ []))
+    let first : length (wire_of (label ∷ front ++ back))
+    ≡ length (label_wire label) + length (wire_of (front ++ back)) =
+    ap length (append_assoc (label_wire label) (flat_map label_wire (front ++ back)) (0 ∷ []))
     ∙ length-append (label_wire label) (wire_of (front ++ back)) in
     let short = h.short in
     (record { each = each-end front back h.each.1; short = omega arith }, omega arith)
@@ -138,7 +143,8 @@ compared first a b x y is a_is b_is = is ∙ ap (λ k. nat_cmp k b) a_is ∙ ap 
 -- one turn of the comparison
 pub compare-step : (one other : List ℕ) (at : ℕ) (first : Ordering) → at < length one → at < length other
     → first ≡ nat_cmp (folded_byte (get_or one at 0)) (folded_byte (get_or other at 0))
-    → slice_cmp nat_cmp (folded (drop at one)) (folded (drop at other)) ≡ ordering_then first (slice_cmp nat_cmp (folded (drop (at + 1) one)) (folded (drop (at + 1) other)))
+    → slice_cmp nat_cmp (folded (drop at one)) (folded (drop at other))
+    ≡ ordering_then first (slice_cmp nat_cmp (folded (drop (at + 1) one)) (folded (drop (at + 1) other)))
 compare-step one other at first below within is =
     rw (add-one)
     (ap (λ l. slice_cmp nat_cmp (folded l) (folded (drop at other))) (drop-cons one at 0 below)

@@ -1,5 +1,6 @@
 -- The loop that reads a name in a message.
-use Rattle.std.proofs.Common.{◌≡◌, ℕ, suc, ◌+◌, ◌<◌, ◌≤◌, List, [], ◌∷◌, ◌++◌, length, take, drop, Option, Some, unwrap_or, sym, ◌∙◌, ap, subst, arith, append_assoc, length-append, add-one}
+use Rattle.std.proofs.Common.{◌≡◌, ℕ, suc, ◌+◌, ◌<◌, ◌≤◌, List, [], ◌∷◌, ◌++◌, length, take, drop, Option, Some}
+use Rattle.std.proofs.Common.{unwrap_or, sym, ◌∙◌, ap, subst, arith, append_assoc, length-append, add-one}
 use Rattle.std.proofs.lemmas.List.{append-nil}
 use Rattle.std.specs.List.{AllByRecursion, flat_map}
 use Rattle.dns_name.specs.Name.{IsLabel, label_wire, wire_of, IsName, labels_of, IsWire}
@@ -41,7 +42,9 @@ root-name message at wire start here next whole name end r is named end_is root 
     let labels : name ≡ r.labels = named ∙ ap labels_of (is ∙ ap (λ w. w ++ 0 ∷ []) r.bytes)
     ∙ labels_of-wire_of r.labels (reached-name message at r.labels start here r.far).each in
     let place : end ≡ unwrap_or (after_pointer at r.far.fields) (here + 1) = end_is ∙ ap (λ n. unwrap_or n (here + 1)) r.after in
-    subst (λ n. NameAt message at name n) (sym place) (subst (λ l. NameAt message at l (unwrap_or (after_pointer at r.far.fields) (here + 1))) (sym labels) (name_reached message at r.labels start here r.far root))
+    subst (λ n. NameAt message at name n) (sym place)
+    (subst (λ l. NameAt message at l (unwrap_or (after_pointer at r.far.fields) (here + 1))) (sym labels)
+    (name_reached message at r.labels start here r.far root))
 
 pub flat_map-last : (labels : List (List ℕ)) (l : List ℕ) → flat_map label_wire labels ++ label_wire l ≡ flat_map label_wire (labels ++ l ∷ [])
 flat_map-last [] l = sym (append-nil (label_wire l))

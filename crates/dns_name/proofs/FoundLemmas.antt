@@ -1,5 +1,6 @@
 -- In a message of bytes each place has a name or its fault.
-use Rattle.std.proofs.Common.{◌≡◌, ◌⊎◌, ℕ, zero, suc, ◌+◌, ◌-◌, ◌*◌, ◌<◌, ◌≤◌, List, [], ◌∷◌, ◌++◌, length, take, drop, get_or, refl, ◌∙◌, ap, subst, inl, inr, arith, unwrap_or}
+use Rattle.std.proofs.Common.{◌≡◌, ◌⊎◌, ℕ, zero, suc, ◌+◌, ◌-◌, ◌*◌, ◌<◌, ◌≤◌, List, [], ◌∷◌, ◌++◌, length, take, drop}
+use Rattle.std.proofs.Common.{get_or, refl, ◌∙◌, ap, subst, inl, inr, arith, unwrap_or}
 use Rattle.std.specs.List.{AllByRecursion}
 use Rattle.dns_name.specs.Name.{IsByte, wire_of}
 use Rattle.dns_name.specs.Wire.{StandsAt, RootAt, LabelAt, PointerAt, after_pointer, NameAt, Reaches, IsCut, IsBadType, NameBreaks}
@@ -73,7 +74,8 @@ run : (message : List ℕ) (at : ℕ) → AllByRecursion IsByte message → (sta
     → Found message at
 run message at all start zero further labels here r short = inr (Short here, (labels, start, r, inl (omega arith)))
 run message at all start (suc more) further labels here r short =
-    on (λ l there fits. run message at all start more further (labels ++ l ∷ []) (here + (length l + 1)) (reaches-label message at labels start here l r there fits) (omega arith)) (kind_of message here all)
+    on (λ l there fits. run message at all start more further (labels ++ l ∷ []) (here + (length l + 1))
+    (reaches-label message at labels start here l r there fits) (omega arith)) (kind_of message here all)
   where
     with_label : (l : List ℕ) → LabelAt message here l → (length (wire_of (labels ++ l ∷ [])) ≤ 255 → Found message at)
         → (length (wire_of (labels ++ l ∷ [])) ≤ 255) ⊎ (255 < length (wire_of (labels ++ l ∷ []))) → Found message at

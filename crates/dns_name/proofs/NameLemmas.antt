@@ -1,5 +1,8 @@
-use Rattle.std.proofs.Common.{◌≡◌, ℕ, zero, suc, ◌+◌, ◌-◌, ◌<◌, ◌≤◌, List, [], ◌∷◌, ◌++◌, map, length, take, drop, replicate, get_or, set, refl, sym, ◌∙◌, ap, subst, arith, append_assoc, length-append, add-one, cond, Some, None, Fits, w8}
-use Rattle.std.proofs.lemmas.List.{take_at, drop_at, drop-drop, drop-replicate, append-nil, map-append, length-map, length-take, length-drop, take_rest, take_all, drop_all, get_or_default}
+use Rattle.std.proofs.Common.{◌≡◌, ℕ, zero, suc, ◌+◌, ◌-◌, ◌<◌, ◌≤◌, List, [], ◌∷◌, ◌++◌, map, length, take, drop}
+use Rattle.std.proofs.Common.{replicate, get_or, set, refl, sym, ◌∙◌, ap, subst, arith, append_assoc, length-append}
+use Rattle.std.proofs.Common.{add-one, cond, Some, None, Fits, w8}
+use Rattle.std.proofs.lemmas.List.{take_at, drop_at, drop-drop, drop-replicate, append-nil, map-append, length-map}
+use Rattle.std.proofs.lemmas.List.{length-take, length-drop, take_rest, take_all, drop_all, get_or_default}
 use Rattle.std.proofs.lemmas.List.Edits.{map_over_more}
 use Rattle.std.proofs.lemmas.Grind.{flat_map-append}
 use Rattle.std.proofs.lemmas.Bool.{le-leb, lt-leb, lt-ltb, cond-true}
@@ -181,7 +184,8 @@ HoldsName-appended_label front label len row after h some most bytes room is =
     let most_bytes : length (whole ++ label_wire label) < 255 = omega (arith, length-append whole (label_wire label)) in
     let size = own.size in
     subst (λ n. HoldsName (front ++ label ∷ []) n after) (omega arith)
-    (HoldsName-append front (label ∷ []) whole (wire_of (label ∷ [])) after h.name own.name refl refl (omega arith) (cells ∙ sym (padded-zero 255 (whole ++ label_wire label) most_bytes) ∙ ap (padded 255) joined))
+    (HoldsName-append front (label ∷ []) whole (wire_of (label ∷ [])) after h.name own.name refl refl (omega arith)
+    (cells ∙ sym (padded-zero 255 (whole ++ label_wire label) most_bytes) ∙ ap (padded 255) joined))
 
 -- what joining gives, by the length of the wire form
 pub name_within-fits : (labels : List (List ℕ)) → length (wire_of labels) ≤ 255 → Some labels ≡ name_within labels

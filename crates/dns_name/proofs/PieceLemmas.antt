@@ -1,5 +1,6 @@
 -- What the piece at the front of a text shows, and what texts of bytes and labels show of one more.
-use Rattle.std.proofs.Common.{◌≡◌, ℕ, ◌+◌, ◌≤◌, List, [], ◌∷◌, ◌++◌, length, drop, true, ◌&&◌, ◌==◌, nat_le, Some, None, refl, sym, ◌∙◌, ap, subst, inl, inr, arith, append_assoc}
+use Rattle.std.proofs.Common.{◌≡◌, ℕ, ◌+◌, ◌≤◌, List, [], ◌∷◌, ◌++◌, length, drop, true, ◌&&◌, ◌==◌, nat_le, Some, None}
+use Rattle.std.proofs.Common.{refl, sym, ◌∙◌, ap, subst, inl, inr, arith, append_assoc}
 use Rattle.std.proofs.lemmas.List.{append-nil}
 use Rattle.std.proofs.lemmas.Bool.{cond_both, eqb-true, eqb-false, leb-true, and_parts}
 use Rattle.std.specs.Char.{is_ascii_digit}
@@ -25,8 +26,15 @@ SpellsBytes-snoc (c ∷ cs) text h t b s =
 pub SpellsDotted-snoc : (labels : List (List ℕ)) (text : List ℕ) → SpellsDotted text labels → (t : List ℕ) (l : List ℕ)
     → SpellsBytes t l → IsLabel l → SpellsDotted (text ++ (t ++ dot ∷ [])) (labels ++ l ∷ [])
 SpellsDotted-snoc [] text h t l s i = (t, [], ap (λ x. x ++ (t ++ dot ∷ [])) h, s, i, refl)
-SpellsDotted-snoc (k ∷ ks) text h t l s i =
-    (h.0, h.1 ++ (t ++ dot ∷ []), ap (λ x. x ++ (t ++ dot ∷ [])) h.2 ∙ append_assoc h.0 (dot ∷ h.1) (t ++ dot ∷ []), h.3, h.4, SpellsDotted-snoc ks h.1 h.5 t l s i)
+SpellsDotted-snoc (k ∷ ks) text h t l s i = (
+  h.0,
+  h.1 ++ (t ++ dot ∷ []),
+  ap (λ x. x ++ (t ++ dot ∷ [])) h.2
+      ∙ append_assoc h.0 (dot ∷ h.1) (t ++ dot ∷ []),
+  h.3,
+  h.4,
+  SpellsDotted-snoc ks h.1 h.5 t l s i,
+)
 
 -- bytes of a text and of what it stands for
 pub AllBytes-left : (xs ys : List ℕ) → AllByRecursion IsByte (xs ++ ys) → AllByRecursion IsByte xs
@@ -61,16 +69,23 @@ unfolding Met
 met_decimal x y [] is digit = is
 met_decimal x y (z ∷ []) is digit = is
 met_decimal x y (z ∷ w ∷ rest) is digit =
-    cond_both (is_ascii_digit z && is_ascii_digit w && nat_le (decimal_of y z w) 255) (Some (decimal_of y z w, 3)) None (λ o. Met x (y ∷ z ∷ w ∷ rest) (piece_of o)) (λ all.
+    cond_both (is_ascii_digit z && is_ascii_digit w && nat_le (decimal_of y z w) 255) (Some (decimal_of y z w, 3)) None
+    (λ o. Met x (y ∷ z ∷ w ∷ rest) (piece_of o)) (λ all.
     let small = and_parts (is_ascii_digit z && is_ascii_digit w) _ all in
-    let both = and_parts (is_ascii_digit z) _ small.0 in
-    (backslash ∷ y ∷ z ∷ w ∷ [], ap (λ k. k ∷ y ∷ z ∷ w ∷ rest) is, inr (inr (y, z, w, refl, digit, both.0, both.1, refl, leb-true _ 255 small.1)), refl)) (λ _. is)
+    let both = and_parts (is_ascii_digit z) _ small.0 in (
+      backslash ∷ y ∷ z ∷ w ∷ [],
+      ap (λ k. k ∷ y ∷ z ∷ w ∷ rest) is,
+      inr (inr (y, z, w, refl, digit, both.0, both.1, refl, leb-true _ 255 small.1)),
+      refl,
+    )) (λ _. is)
 
 met_escape : (x : ℕ) (rest : List ℕ) → x ≡ backslash → Met x rest (escape_piece rest)
 unfolding Met
 met_escape x [] is = is
 met_escape x (y ∷ rest) is =
-    cond_both (is_ascii_digit y) (decimal_byte y rest) (Some (y, 1)) (λ o. Met x (y ∷ rest) (piece_of o)) (λ digit. met_decimal x y rest is digit) (λ other. (backslash ∷ y ∷ [], ap (λ k. k ∷ y ∷ rest) is, inr (inl (refl, other)), refl))
+    cond_both (is_ascii_digit y) (decimal_byte y rest) (Some (y, 1)) (λ o. Met x (y ∷ rest) (piece_of o))
+    (λ digit. met_decimal x y rest is digit)
+    (λ other. (backslash ∷ y ∷ [], ap (λ k. k ∷ y ∷ rest) is, inr (inl (refl, other)), refl))
 
 pub met : (x : ℕ) (rest : List ℕ) → Met x rest (first_piece (x ∷ rest))
 unfolding Met

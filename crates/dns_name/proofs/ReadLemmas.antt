@@ -1,9 +1,12 @@
 -- Names in messages: where their reading stops, step by step, and that there is exactly one answer.
-use Rattle.std.proofs.Common.{◌≡◌, ℕ, suc, ◌+◌, ◌<◌, ◌≤◌, List, [], ◌∷◌, ◌++◌, length, take, drop, get_or, Option, Some, None, unwrap_or, cond, nat_lt, nat_le, ◌==◌, refl, sym, ◌∙◌, ap, subst, inl, inr, arith, length-drop}
+use Rattle.std.proofs.Common.{◌≡◌, ℕ, suc, ◌+◌, ◌<◌, ◌≤◌, List, [], ◌∷◌, ◌++◌, length, take, drop, get_or, Option, Some}
+use Rattle.std.proofs.Common.{None, unwrap_or, cond, nat_lt, nat_le, ◌==◌, refl, sym, ◌∙◌, ap, subst, inl, inr, arith}
+use Rattle.std.proofs.Common.{length-drop}
 use Rattle.std.proofs.lemmas.List.{length-take}
 use Rattle.std.proofs.lemmas.Bool.Decides.{nat_tests}
 use Rattle.dns_name.specs.Name.{wire_of}
-use Rattle.dns_name.specs.Wire.{StandsAt, RootAt, LabelAt, PointerAt, Field, Leads, labels_in, after_pointer, NameAt, Reaches, IsCut, IsBadType, NameBreaks, by_label, by_pointer}
+use Rattle.dns_name.specs.Wire.{StandsAt, RootAt, LabelAt, PointerAt, Field, Leads, labels_in, after_pointer, NameAt}
+use Rattle.dns_name.specs.Wire.{Reaches, IsCut, IsBadType, NameBreaks, by_label, by_pointer}
 use Rattle.dns_name.specs.declared.wire_fault.WireFault.{WireFault}
 use Rattle.dns_name.specs.declared.wire_fault.WireFault.TheVariants.{Short, BadLabelType, ForwardPointer, NameTooLong}
 use Rattle.dns_name.proofs.WireLemmas.{from_place, one_label, one_pointer, label_no_pointer, one_first, IsStop, one_way}
@@ -31,7 +34,11 @@ stands message at x xs h =
 -- what the byte at a place and the room after it decide
 pub verdict : ℕ → ℕ → ℕ → Option WireFault
 verdict at byte size =
-    cond (nat_le size at) (Some (Short at)) (cond (byte == 0) None (cond (nat_lt byte 64) (cond (nat_lt (at + byte) size) (Some (NameTooLong at)) (Some (Short at))) (cond (nat_lt byte 192) (Some (BadLabelType at)) (cond (nat_lt (at + 1) size) (Some (ForwardPointer at)) (Some (Short at))))))
+    cond (nat_le size at) (Some (Short at))
+    (cond (byte == 0) None
+    (cond (nat_lt byte 64) (cond (nat_lt (at + byte) size) (Some (NameTooLong at)) (Some (Short at)))
+    (cond (nat_lt byte 192) (Some (BadLabelType at))
+    (cond (nat_lt (at + 1) size) (Some (ForwardPointer at)) (Some (Short at))))))
 
 verdict-root : (at byte size : ℕ) → at + 1 ≤ size → byte ≡ 0 → verdict at byte size ≡ None
 unfolding verdict
@@ -102,7 +109,8 @@ cut_ends message labels start here (inr (inl (size, h, some, most, short))) =
     let is = s.is in
     let inside = s.inside in
     record {
-      stop = stop_by message labels start here (λ n k p q. let e = k.inside in let f = k.is in absurd (omega arith)) (λ n k p. let f = k.is in absurd (omega arith));
+      stop = stop_by message labels start here (λ n k p q. let e = k.inside in let f = k.is in absurd (omega arith))
+          (λ n k p. let f = k.is in absurd (omega arith));
       told = verdict-label_cut here (get_or message here 0) (length message) size (omega arith) is some most short;
     }
 cut_ends message labels start here (inr (inr (high, h, some, short))) =
@@ -208,7 +216,9 @@ same_reading message at why why' one two =
     let P : List (List ℕ) → Type 0 = λ l. length (wire_of l) ≤ 255 in
     let Q : List (List ℕ) → Type 0 = λ l. IsStop message l one.start one.here in
     let R : List (List ℕ) → Type 0 = λ l. IsStop message l two.start two.here in
-    let way = one_way message at at [] one.far.fields two.far.fields one.start one.here two.start two.here one.far.leads two.far.leads (subst P one.far.spelt one.far.short) (subst P two.far.spelt two.far.short) (subst Q one.far.spelt one.ends.stop) (subst R two.far.spelt two.ends.stop) in
+    let way = one_way message at at [] one.far.fields two.far.fields one.start one.here two.start two.here
+    one.far.leads two.far.leads (subst P one.far.spelt one.far.short) (subst P two.far.spelt two.far.short)
+    (subst Q one.far.spelt one.ends.stop) (subst R two.far.spelt two.ends.stop) in
     record { fields = way.0; start = way.1; here = way.2 }
 
 -- two cuts that are reached are reached in one run
@@ -216,8 +226,16 @@ pub same_start : (message : List ℕ) (at place place' start start' : ℕ) (one 
     → Reaches message at one start place → IsCut message place → Reaches message at two start' place'
     → IsCut message place' → start ≡ start'
 same_start message at place place' start start' one two far cut far' cut' =
-    let first : Reading message at (Some (Short place)) = record { labels = one; start = start; here = place; far = far; ends = cut_ends message one start place cut } in
-    let second : Reading message at (Some (Short place')) = record { labels = two; start = start'; here = place'; far = far'; ends = cut_ends message two start' place' cut' } in
+    let first : Reading message at (Some (Short place)) =
+    record { labels = one; start = start; here = place; far = far; ends = cut_ends message one start place cut } in
+    let second : Reading message at (Some (Short place')) =
+    record {
+      labels = two;
+      start = start';
+      here = place';
+      far = far';
+      ends = cut_ends message two start' place' cut';
+    } in
     (same_reading message at (Some (Short place)) (Some (Short place')) first second).start
 
 pub one_why : (message : List ℕ) (at : ℕ) (why why' : Option WireFault) → Reading message at why → Reading message at why' → why ≡ why'

@@ -1,5 +1,6 @@
 -- The loop over the labels of a first run.
-use Rattle.std.proofs.Common.{◌≡◌, ℕ, suc, ◌+◌, ◌-◌, ◌<◌, ◌≤◌, List, [], ◌∷◌, ◌++◌, length, Option, Some, None, Ok, Err, sym, ◌∙◌, ap, subst, arith, length-append}
+use Rattle.std.proofs.Common.{◌≡◌, ℕ, suc, ◌+◌, ◌-◌, ◌<◌, ◌≤◌, List, [], ◌∷◌, ◌++◌, length, Option, Some, None, Ok, Err}
+use Rattle.std.proofs.Common.{sym, ◌∙◌, ap, subst, arith, length-append}
 use Rattle.std.specs.Prelude.{MatchOption}
 use Rattle.std.specs.List.{flat_map}
 use Rattle.dns_name.specs.Name.{label_wire, wire_of}
@@ -50,7 +51,8 @@ running-long bytes at here size r (there, whole) long =
     let more = size-more r.labels label in
     let is = r.size in
     let over : 255 < length (wire_of (r.labels ++ label ∷ [])) = omega (arith, length-append (flat_map label_wire (r.labels ++ label ∷ [])) (0 ∷ [])) in
-    not_cut bytes at r.labels here (Some (NameTooLong here)) (run_of bytes at r.labels here r.far) (long_ends bytes r.labels 0 here label there over) (λ place e. absurd (cc))
+    not_cut bytes at r.labels here (Some (NameTooLong here)) (run_of bytes at r.labels here r.far)
+    (long_ends bytes r.labels 0 here label there over) (λ place e. absurd (cc))
 
 pub running-root : (bytes : List ℕ) (at here : ℕ) → IsRunning bytes at here → RootAt bytes here → (place : ℕ) → ¬ RunIsCut bytes at place
 running-root bytes at here r root =
@@ -58,11 +60,13 @@ running-root bytes at here r root =
 
 pub running-pointer : (bytes : List ℕ) (at here offset : ℕ) → IsRunning bytes at here → PointerAt bytes here offset → (place : ℕ) → ¬ RunIsCut bytes at place
 running-pointer bytes at here offset r pointer =
-    not_cut bytes at r.labels here (Some (ForwardPointer here)) (run_of bytes at r.labels here r.far) (forward_ends bytes r.labels 0 here offset pointer (omega arith)) (λ place e. absurd (cc))
+    not_cut bytes at r.labels here (Some (ForwardPointer here)) (run_of bytes at r.labels here r.far)
+    (forward_ends bytes r.labels 0 here offset pointer (omega arith)) (λ place e. absurd (cc))
 
 running-bad : (bytes : List ℕ) (at here : ℕ) → IsRunning bytes at here → IsBadType bytes here → (place : ℕ) → ¬ RunIsCut bytes at place
 running-bad bytes at here r bad =
-    not_cut bytes at r.labels here (Some (BadLabelType here)) (run_of bytes at r.labels here r.far) (bad_ends bytes r.labels 0 here bad) (λ place e. absurd (cc))
+    not_cut bytes at r.labels here (Some (BadLabelType here)) (run_of bytes at r.labels here r.far)
+    (bad_ends bytes r.labels 0 here bad) (λ place e. absurd (cc))
 
 pub running-fault : (bytes : List ℕ) (at here : ℕ) (fault : WireFault) (place : Option ℕ) → IsRunning bytes at here
     → IsField bytes here (Err fault) → place ≡ cut_place fault

@@ -1,4 +1,6 @@
-use Rattle.std.proofs.Common.{◌≡◌, ◌≢◌, ℕ, ◌+◌, ◌/◌, ◌%◌, ◌<◌, ◌≤◌, List, [], ◌∷◌, ◌++◌, length, drop, Bool, true, false, ◌&&◌, nat_le, bytes_eq, IsTrue, IsFalse, Option, Some, None, Result, Ok, Err, refl, sym, ◌∙◌, ap, subst, inl, inr, arith, append_assoc, length-append}
+use Rattle.std.proofs.Common.{◌≡◌, ◌≢◌, ℕ, ◌+◌, ◌/◌, ◌%◌, ◌<◌, ◌≤◌, List, [], ◌∷◌, ◌++◌, length, drop, Bool, true}
+use Rattle.std.proofs.Common.{false, ◌&&◌, nat_le, bytes_eq, IsTrue, IsFalse, Option, Some, None, Result, Ok, Err, refl}
+use Rattle.std.proofs.Common.{sym, ◌∙◌, ap, subst, inl, inr, arith, append_assoc, length-append}
 use Rattle.std.proofs.lemmas.List.{append-nil}
 use Rattle.std.proofs.lemmas.Bool.{cases_Bool, cond-true, cond-false, cond_both, ne_eqb, eq-eqb, le-leb, leb-true, false≢true, and_from, and_parts, cases_lt}
 use Rattle.std.proofs.lemmas.Bool.Decides.{nat_tests}
@@ -7,8 +9,11 @@ use Rattle.std.specs.Char.{is_ascii_digit}
 use Rattle.std.specs.List.{AllByRecursion, flat_map}
 use Rattle.dns_name.specs.Name.{IsByte, IsLabel, IsName, label_wire, wire_of, name_within}
 use Rattle.enum_base.specs.Escapes.{backslash, decimal_of, decimal_byte}
-use Rattle.dns_name.specs.Text.{dot, SpellsByte, SpellsBytes, SpellsDotted, IsAbsolute, IsRelative, HasEmptyLabel, HasLongLabel, HasBadEscape, BeginsIllFormed, byte_text, label_text, text_of, is_special, is_visible}
-use Rattle.dns_name.specs.Reading.{piece_of, escape_piece, first_piece, more_of, pieces_after, pieces, with_label, reading_from, reading_of, fitting, finished, name_of}
+use Rattle.dns_name.specs.Text.{dot, SpellsByte, SpellsBytes, SpellsDotted, IsAbsolute, IsRelative, HasEmptyLabel}
+use Rattle.dns_name.specs.Text.{HasLongLabel, HasBadEscape, BeginsIllFormed, byte_text, label_text, text_of, is_special}
+use Rattle.dns_name.specs.Text.{is_visible}
+use Rattle.dns_name.specs.Reading.{piece_of, escape_piece, first_piece, more_of, pieces_after, pieces, with_label}
+use Rattle.dns_name.specs.Reading.{reading_from, reading_of, fitting, finished, name_of}
 use Rattle.dns_name.specs.declared.piece.Piece.{Piece}
 use Rattle.dns_name.specs.declared.piece.Piece.TheVariants.{Dot, Byte, Broken}
 use Rattle.dns_name.specs.declared.fault.NameFault.{NameFault}
@@ -125,7 +130,8 @@ read-long (byte ∷ bytes) text h labels start label at rest room sum =
       | inl less ↦
           begin
           ∙ read-byte_cons labels start label at byte p.more (pieces (h.1 ++ rest)) (omega arith)
-          ∙ read-long bytes h.1 h.4 labels start (label ++ byte ∷ []) (at + (p.more + 1)) rest (omega (arith, length-append label (byte ∷ []))) (omega (arith, length-append label (byte ∷ [])))
+          ∙ read-long bytes h.1 h.4 labels start (label ++ byte ∷ []) (at + (p.more + 1)) rest
+          (omega (arith, length-append label (byte ∷ []))) (omega (arith, length-append label (byte ∷ [])))
       | inr full ↦ begin ∙ read-full_cons labels start label at byte p.more (pieces (h.1 ++ rest)) (omega arith)
     ]
 
@@ -139,7 +145,13 @@ with_label-within front label =
     elim (cases_lt 255 (length (wire_of front))) [
       | inl long ↦
           let longer : 255 < length (wire_of (front ++ label ∷ [])) =
-          omega (arith, ap length (wire_of-append front (label ∷ [])), length-append (flat_map label_wire front) (wire_of (label ∷ [])), length-append (flat_map label_wire front) (0 ∷ []), length-append (label ++ []) (0 ∷ [])) in
+          omega (
+            arith,
+            ap length (wire_of-append front (label ∷ [])),
+            length-append (flat_map label_wire front) (wire_of (label ∷ [])),
+            length-append (flat_map label_wire front) (0 ∷ []),
+            length-append (label ++ []) (0 ∷ []),
+          ) in
           ap (λ o. with_label o label) (sym (name_within-long front long)) ∙ name_within-long (front ++ label ∷ []) longer
       | inr fits ↦ ap (λ o. with_label o label) (sym (name_within-fits front fits))
     ]
@@ -289,7 +301,8 @@ decimal_byte-none x (y ∷ z ∷ rest) digit none =
       | inl all ↦
           let small = and_parts (is_ascii_digit y && is_ascii_digit z) _ all in
           let both = and_parts (is_ascii_digit y) _ small.0 in
-          absurd (none (backslash ∷ x ∷ y ∷ z ∷ []) rest (decimal_of x y z) refl (inr (inr (x, y, z, refl, digit, both.0, both.1, refl, leb-true _ 255 small.1))))
+          absurd (none (backslash ∷ x ∷ y ∷ z ∷ []) rest (decimal_of x y z) refl
+          (inr (inr (x, y, z, refl, digit, both.0, both.1, refl, leb-true _ 255 small.1))))
       | inr fails ↦ cond-false _ (Some (decimal_of x y z, 3)) None fails
     ]
 
@@ -348,7 +361,17 @@ SpellsByte-byte_text byte small =
     let P : List ℕ → Type 0 = λ t. SpellsByte t byte in
     cond_both (is_special byte) _ _ P (λ special. inr (inl (refl, special_no_digit byte special))) (λ other.
     cond_both (is_visible byte) _ _ P (λ visible. inl (refl, not_dot byte other, not_backslash byte other)) (λ hidden.
-    inr (inr (48 + byte / 100, 48 + byte / 10 % 10, 48 + byte % 10, refl, digit_is (byte / 100) (omega arith), digit_is (byte / 10 % 10) (omega arith), digit_is (byte % 10) (omega arith), omega arith, omega arith))))
+    inr (inr (
+      48 + byte / 100,
+      48 + byte / 10 % 10,
+      48 + byte % 10,
+      refl,
+      digit_is (byte / 100) (omega arith),
+      digit_is (byte / 10 % 10) (omega arith),
+      digit_is (byte % 10) (omega arith),
+      omega arith,
+      omega arith,
+    ))))
 
 pub SpellsBytes-text : (label : List ℕ) → AllByRecursion IsByte label → SpellsBytes (flat_map byte_text label) label
 SpellsBytes-text [] h = refl
@@ -356,8 +379,14 @@ SpellsBytes-text (b ∷ bs) h = (byte_text b, flat_map byte_text bs, refl, Spell
 
 pub SpellsDotted-text : (labels : List (List ℕ)) → AllByRecursion IsLabel labels → SpellsDotted (flat_map label_text labels) labels
 SpellsDotted-text [] h = refl
-SpellsDotted-text (l ∷ ls) h =
-    (flat_map byte_text l, flat_map label_text ls, append_assoc (flat_map byte_text l) (dot ∷ []) (flat_map label_text ls), SpellsBytes-text l h.0.bytes, h.0, SpellsDotted-text ls h.1)
+SpellsDotted-text (l ∷ ls) h = (
+  flat_map byte_text l,
+  flat_map label_text ls,
+  append_assoc (flat_map byte_text l) (dot ∷ []) (flat_map label_text ls),
+  SpellsBytes-text l h.0.bytes,
+  h.0,
+  SpellsDotted-text ls h.1,
+)
 
 pub IsAbsolute-text : (labels : List (List ℕ)) → AllByRecursion IsLabel labels → IsAbsolute (text_of labels) labels
 IsAbsolute-text [] h = refl

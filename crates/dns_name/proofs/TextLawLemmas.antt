@@ -1,12 +1,16 @@
 -- Name texts: what is read of a text is what it stands for, and texts are read again.
-use Rattle.std.proofs.Common.{◌≡◌, ◌≢◌, ◌⊎◌, ℕ, zero, suc, ◌+◌, ◌<◌, ◌≤◌, List, [], ◌∷◌, ◌++◌, length, drop, Bool, true, false, ◌==◌, bytes_eq, ◌↔◌, Option, Some, None, option_and_then, Result, Ok, Err, refl, sym, ◌∙◌, ap, subst, inl, inr, arith, append_assoc, length-append, not, IsTrue}
+use Rattle.std.proofs.Common.{◌≡◌, ◌≢◌, ◌⊎◌, ℕ, zero, suc, ◌+◌, ◌<◌, ◌≤◌, List, [], ◌∷◌, ◌++◌, length, drop, Bool, true}
+use Rattle.std.proofs.Common.{false, ◌==◌, bytes_eq, ◌↔◌, Option, Some, None, option_and_then, Result, Ok, Err, refl}
+use Rattle.std.proofs.Common.{sym, ◌∙◌, ap, subst, inl, inr, arith, append_assoc, length-append, not, IsTrue}
 use Rattle.std.proofs.lemmas.List.{append-nil, length-drop, nil_from_length}
 use Rattle.std.proofs.lemmas.Bool.{cases_lt, cond_both, eqb-true, eqb-false, and_parts, or_cases, not-true, cond-true, cond-false, false≢true}
 use Rattle.std.proofs.lemmas.Slice.Eq.{bytes_eq-Decides}
 use Rattle.std.specs.List.{AllByRecursion, flat_map}
 use Rattle.dns_name.specs.Name.{IsByte, IsLabel, label_wire, wire_of, name_within}
 use Rattle.enum_base.specs.Escapes.{backslash}
-use Rattle.dns_name.specs.Text.{dot, SpellsByte, SpellsBytes, SpellsDotted, IsAbsolute, IsRelative, StandsFor, HasEmptyLabel, HasLongLabel, HasBadEscape, is_visible, is_special, byte_text, label_text, text_of}
+use Rattle.dns_name.specs.Text.{dot, SpellsByte, SpellsBytes, SpellsDotted, IsAbsolute, IsRelative, StandsFor}
+use Rattle.dns_name.specs.Text.{HasEmptyLabel, HasLongLabel, HasBadEscape, is_visible, is_special, byte_text}
+use Rattle.dns_name.specs.Text.{label_text, text_of}
 use Rattle.dns_name.specs.Laws.{is_unescaped}
 use Rattle.dns_name.specs.Reading.{first_piece, more_of, pieces_after, pieces, reading_from, reading_of, fitting, finished, name_of}
 use Rattle.dns_name.specs.declared.piece.Piece.{Piece}
@@ -66,8 +70,22 @@ shows_end whole front middle labels [] start at s =
       none = inl (nil_from_length whole (omega (arith, ap length none, eqb-true start 0 first)));
       no_root = other;
     }) (λ later. (labels, refl, subst P (sym none) s.before, λ e. eqb-false start 0 later (omega (arith, ap length (sym none ∙ e)))))
-shows_end whole front middle labels (b ∷ bs) start at s =
-    (labels ++ (b ∷ bs) ∷ [], with_label-within labels (b ∷ bs), (front, middle, labels, b ∷ bs, s.parts ∙ ap (λ m. front ++ m) (append-nil middle), refl, s.before, s.bytes, IsLabel-stands whole [] front middle labels b bs start at s))
+shows_end whole front middle labels (b ∷ bs) start at s = (
+  labels ++ (b ∷ bs) ∷ [],
+  with_label-within labels (b ∷ bs),
+  (
+    front,
+    middle,
+    labels,
+    b ∷ bs,
+    s.parts
+        ∙ ap (λ m. front ++ m) (append-nil middle),
+    refl,
+    s.before,
+    s.bytes,
+    IsLabel-stands whole [] front middle labels b bs start at s,
+  ),
+)
 
 -- what is shown of whatever is left, up to a length
 Continues : List ℕ → ℕ → Type 0
@@ -94,7 +112,14 @@ shows_dot whole x rest front middle labels (b ∷ bs) start at go is s =
     let label = b ∷ bs in
     let front' = front ++ (middle ++ dot ∷ []) in
     let at_is = s.at_is in
-    let size : length front' ≡ at + 1 = omega (arith, length-append front (middle ++ dot ∷ []), length-append middle (dot ∷ []), length-append front middle, at_is) in
+    let size : length front' ≡ at + 1 =
+    omega (
+      arith,
+      length-append front (middle ++ dot ∷ []),
+      length-append middle (dot ∷ []),
+      length-append front middle,
+      at_is,
+    ) in
     let cut : front ++ (middle ++ x ∷ rest) ≡ front' ++ ([] ++ rest) =
     ap (λ k. front ++ (middle ++ k ∷ rest)) is ∙ ap (λ m. front ++ m) (sym (append_assoc middle (dot ∷ []) rest))
     ∙ sym (append_assoc front (middle ++ dot ∷ []) rest) in
@@ -123,7 +148,9 @@ shows_byte whole x rest front middle labels label start at value more go h s =
     let most = s.most in
     let cut : middle ++ (x ∷ rest) ≡ (middle ++ t) ++ left = ap (λ y. middle ++ y) h.1 ∙ sym (append_assoc middle t left) in
     let longer : length (label ++ value ∷ []) ≡ length label + 1 = length-append label (value ∷ []) in
-    cond_both (length label == 63) (Err (LabelTooLong start)) (reading_from (name_within labels) start (label ++ value ∷ []) (at + (more + 1)) (pieces left)) (Shows whole) (λ full. record {
+    cond_both (length label == 63) (Err (LabelTooLong start))
+    (reading_from (name_within labels) start (label ++ value ∷ []) (at + (more + 1)) (pieces left)) (Shows whole)
+    (λ full. record {
       front = front;
       middle = middle ++ t;
       back = left;
@@ -179,7 +206,10 @@ continues whole most [] front middle labels label start at fits s =
 continues whole zero (x ∷ rest) front middle labels label start at fits s = absurd (omega arith)
 continues whole (suc most) (x ∷ rest) front middle labels label start at fits s =
     let P : List Piece → Type 0 = λ ps. Shows whole (reading_from (name_within labels) start label at ps) in
-    subst P (sym (pieces-cons x rest)) (shows_piece whole x rest front middle labels label start at (first_piece (x ∷ rest)) (λ text front' middle' labels' label' start' at' le s'. continues whole most text front' middle' labels' label' start' at' (omega arith) s') refl (met x rest) s)
+    subst P (sym (pieces-cons x rest))
+    (shows_piece whole x rest front middle labels label start at (first_piece (x ∷ rest))
+    (λ text front' middle' labels' label' start' at' le s'. continues whole most text front' middle' labels' label'
+    start' at' (omega arith) s') refl (met x rest) s)
 
 -- what a text is, by what is read of it
 Is : List ℕ → Result (Option (List (List ℕ)) × Bool) NameFault → Type 0
@@ -208,11 +238,22 @@ Is-shown text (Err NoOrigin) other h = h
 reading_of-is : (text : List ℕ) → AllByRecursion IsByte text → Is text (reading_of text)
 unfolding Is Continues reading_of
 reading_of-is text all =
-    cond_both (bytes_eq text (dot ∷ [])) (Ok (Some [], true)) (reading_from (Some []) 0 [] 0 (pieces text)) (Is text) (λ root. ([], name_within-fits [] (omega arith), (bytes_eq-Decides text (dot ∷ [])).0 root)) (λ other.
+    cond_both (bytes_eq text (dot ∷ [])) (Ok (Some [], true)) (reading_from (Some []) 0 [] 0 (pieces text)) (Is text)
+    (λ root. ([], name_within-fits [] (omega arith), (bytes_eq-Decides text (dot ∷ [])).0 root)) (λ other.
     let is : Some [] ≡ name_within [] = name_within-fits [] (omega arith) in
     let P : Option (List (List ℕ)) → Type 0 = λ o. Shows text (reading_from o 0 [] 0 (pieces text)) in
     let no_root : text ≢ dot ∷ [] = λ e. false≢true (sym other ∙ (bytes_eq-Decides text (dot ∷ [])).1 e) in
-    Is-shown text _ no_root (subst P (sym is) (continues text (length text) text [] [] [] [] 0 0 (omega arith) (record { parts = refl; before = refl; bytes = refl; most = omega arith; start_is = refl; at_is = refl; all = all }))))
+    Is-shown text _ no_root (subst P (sym is)
+    (continues text (length text) text [] [] [] [] 0 0 (omega arith)
+    (record {
+      parts = refl;
+      before = refl;
+      bytes = refl;
+      most = omega arith;
+      start_is = refl;
+      at_is = refl;
+      all = all;
+    }))))
 
 -- a name that fits, and one that does not
 fitting-ok : (own labels : List (List ℕ)) → fitting (name_within own) ≡ Ok labels → (own ≡ labels) × (length (wire_of labels) ≤ 255)
@@ -245,7 +286,13 @@ with_origin own origin =
     elim (cases_lt 255 (length (wire_of own))) [
       | inl long ↦
           let longer : 255 < length (wire_of (own ++ origin)) =
-          omega (arith, ap length (wire_of-append own origin), length-append (flat_map label_wire own) (wire_of origin), length-append (flat_map label_wire own) (0 ∷ []), length-append (flat_map label_wire origin) (0 ∷ [])) in
+          omega (
+            arith,
+            ap length (wire_of-append own origin),
+            length-append (flat_map label_wire own) (wire_of origin),
+            length-append (flat_map label_wire own) (0 ∷ []),
+            length-append (flat_map label_wire origin) (0 ∷ []),
+          ) in
           ap P (sym (name_within-long own long)) ∙ name_within-long (own ++ origin) longer
       | inr fits ↦ ap P (sym (name_within-fits own fits))
     ]
@@ -268,7 +315,12 @@ stands-name_of text None (Ok (o, true)) h = inl (h.0, h.2, ap fitting h.1)
 stands-name_of text (Some origin) (Ok (o, true)) h = inl (h.0, inl h.2, ap fitting h.1)
 stands-name_of text None (Ok (o, false)) h = inr (NoOrigin, refl, λ e. cc)
 stands-name_of text (Some origin) (Ok (o, false)) h =
-    inl (h.0 ++ origin, inr (h.0, h.2, refl), ap (λ x. fitting (option_and_then (λ front. name_within (front ++ origin)) x)) h.1 ∙ ap fitting (with_origin h.0 origin))
+    inl (
+      h.0 ++ origin,
+      inr (h.0, h.2, refl),
+      ap (λ x. fitting (option_and_then (λ front. name_within (front ++ origin)) x)) h.1
+          ∙ ap fitting (with_origin h.0 origin),
+    )
 stands-name_of text origin (Err (EmptyLabel at)) h = inr (EmptyLabel at, refl, λ e. cc)
 stands-name_of text origin (Err (LabelTooLong at)) h = inr (LabelTooLong at, refl, λ e. cc)
 stands-name_of text origin (Err (BadEscape at)) h = inr (BadEscape at, refl, λ e. cc)
@@ -366,7 +418,9 @@ wants_origin text (Ok (None, true)) origin h e = absurd (cc)
 wants_origin text (Ok (Some labels, true)) origin h e = absurd (cc)
 wants_origin text (Ok (o, false)) None h e = (refl, (h.0, h.2))
 wants_origin text (Ok (o, false)) (Some origin) h e =
-    let d : fitting (name_within (h.0 ++ origin)) ≡ Err NoOrigin = sym (ap (λ x. fitting (option_and_then (λ front. name_within (front ++ origin)) x)) h.1 ∙ ap fitting (with_origin h.0 origin))
+    let d : fitting (name_within (h.0 ++ origin)) ≡ Err NoOrigin =
+    sym (ap (λ x. fitting (option_and_then (λ front. name_within (front ++ origin)) x)) h.1
+    ∙ ap fitting (with_origin h.0 origin))
     ∙ e in
     absurd (fitting-origin (name_within (h.0 ++ origin)) d)
 wants_origin text (Err (EmptyLabel at)) origin h e = absurd (cc)

@@ -1,4 +1,6 @@
-use Rattle.std.proofs.Common.{◌≡◌, ◌≢◌, ◌⊎◌, ℕ, zero, suc, ◌+◌, ◌-◌, ◌*◌, ◌<◌, ◌≤◌, List, [], ◌∷◌, ◌++◌, length, take, drop, get_or, Bool, true, false, cond, bytes_eq, Option, Some, Ok, Err, refl, sym, ◌∙◌, ap, inl, inr, arith, append_assoc, length-append}
+use Rattle.std.proofs.Common.{◌≡◌, ◌≢◌, ◌⊎◌, ℕ, zero, suc, ◌+◌, ◌-◌, ◌*◌, ◌<◌, ◌≤◌, List, [], ◌∷◌, ◌++◌, length, take}
+use Rattle.std.proofs.Common.{drop, get_or, Bool, true, false, cond, bytes_eq, Option, Some, Ok, Err, refl, sym, ◌∙◌}
+use Rattle.std.proofs.Common.{ap, inl, inr, arith, append_assoc, length-append}
 use Rattle.std.proofs.lemmas.List.{drop-drop, drop_more, drop_all, take_rest, flat_map_more, take_more, append-nil}
 use Rattle.std.proofs.lemmas.Bool.{cond_both, cond-true, eq-eqb, ne_eqb, false≢true}
 use Rattle.std.specs.List.{flat_map}
@@ -88,11 +90,14 @@ read-full labels start label at text value more below is full =
 
 pub read-byte : (labels : Option (List (List ℕ))) (start : ℕ) (label : List ℕ) (at : ℕ) (text : List ℕ) (value more : ℕ)
     → at < length text → Byte value more ≡ first_piece (drop at text) → (length label ≡ 63 → ⊥)
-    → reading_from labels start label at (pieces (drop at text)) ≡ reading_from labels start (label ++ value ∷ []) (at + (more + 1)) (pieces (drop (at + (more + 1)) text))
+    → reading_from labels start label at (pieces (drop at text))
+    ≡ reading_from labels start (label ++ value ∷ []) (at + (more + 1)) (pieces (drop (at + (more + 1)) text))
 unfolding reading_from
 read-byte labels start label at text value more below is room =
     ap (reading_from labels start label at) (pieces-step text at (Byte value more) below is)
-    ∙ ap (λ t. cond t (Err (LabelTooLong start)) (reading_from labels start (label ++ value ∷ []) (at + (more + 1)) (pieces (drop (at + (more + 1)) text)))) (ne_eqb (length label) 63 room)
+    ∙ ap (λ t. cond t (Err (LabelTooLong start))
+    (reading_from labels start (label ++ value ∷ []) (at + (more + 1)) (pieces (drop (at + (more + 1)) text))))
+    (ne_eqb (length label) 63 room)
 
 -- what is read at the end of a text
 pub read-last : (labels : Option (List (List ℕ))) (start : ℕ) (label : List ℕ) (at : ℕ) (text : List ℕ)

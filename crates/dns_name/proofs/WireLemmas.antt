@@ -1,5 +1,7 @@
 -- Names in messages: what stands at a place, and the one way in which a name is read.
-use Rattle.std.proofs.Common.{◌≡◌, ℕ, zero, suc, ◌+◌, ◌-◌, ◌*◌, ◌<◌, ◌≤◌, List, [], ◌∷◌, ◌++◌, length, take, drop, get_or, refl, sym, ◌∙◌, ap, subst, arith, append_assoc, length-append, length-drop, add-one, drop-cons}
+use Rattle.std.proofs.Common.{◌≡◌, ℕ, zero, suc, ◌+◌, ◌-◌, ◌*◌, ◌<◌, ◌≤◌, List, [], ◌∷◌, ◌++◌, length, take, drop}
+use Rattle.std.proofs.Common.{get_or, refl, sym, ◌∙◌, ap, subst, arith, append_assoc, length-append, length-drop}
+use Rattle.std.proofs.Common.{add-one, drop-cons}
 use Rattle.std.proofs.lemmas.List.{length-take, append-nil}
 use Rattle.std.specs.List.{AllByRecursion, flat_map}
 use Rattle.dns_name.specs.Name.{IsByte, label_wire, wire_of}
@@ -29,8 +31,8 @@ label-there message at size all inside is some most room =
     let here = from_place message at inside in (
       (
         ap (take (suc (length (label_bytes message at size)))) here
-        ∙ ap (λ n. get_or message at 0 ∷ take n (drop (at + 1) message)) whole
-        ∙ ap (λ b. b ∷ label_bytes message at size) (sym is ∙ sym whole),
+            ∙ ap (λ n. get_or message at 0 ∷ take n (drop (at + 1) message)) whole
+            ∙ ap (λ b. b ∷ label_bytes message at size) (sym is ∙ sym whole),
         record {
           some = omega arith;
           most = omega arith;
@@ -123,7 +125,11 @@ one_way message start at front (by_label one ∷ fs) (by_label two ∷ gs) s h t
     let Q : List (List ℕ) → Type 0 = λ l. IsStop message l s h in
     let R : List (List ℕ) → Type 0 = λ l. IsStop message l t k in
     let turned : front ++ two ∷ labels_in gs ≡ front ++ one ∷ labels_in gs = ap (λ l. front ++ l ∷ labels_in gs) same in
-    let rest = one_way message start (at + (length one + 1)) (front ++ one ∷ []) fs gs s h t k f.1 (subst (λ l. Leads message start (at + (length l + 1)) gs t k) same g.1) (subst P (more-labels front one (labels_in fs)) m) (subst P (turned ∙ more-labels front one (labels_in gs)) n) (subst Q (more-labels front one (labels_in fs)) p) (subst R (turned ∙ more-labels front one (labels_in gs)) q) in
+    let rest = one_way message start (at + (length one + 1)) (front
+    ++ one ∷ []) fs gs s h t k f.1 (subst (λ l. Leads message start (at + (length l + 1)) gs t k) same g.1)
+    (subst P (more-labels front one (labels_in fs)) m) (subst P (turned ∙ more-labels front one (labels_in gs)) n)
+    (subst Q (more-labels front one (labels_in fs)) p)
+    (subst R (turned ∙ more-labels front one (labels_in gs)) q) in
     (ap (λ l. by_label l ∷ fs) (sym same) ∙ ap (λ l. by_label two ∷ l) rest.0, rest.1, rest.2)
 one_way message start at front (by_pointer one ∷ fs) (by_pointer two ∷ gs) s h t k f g m n p q =
     let same : two ≡ one = one_pointer message at two one g.0 f.0 in

@@ -51,4 +51,6 @@ found_within message at to fits (inr whole) (inr (fault, breaks)) = inr (Wire fa
 
 pub within_or_fault : (message : List ℕ) (at to : ℕ) → to ≤ length message → AllByRecursion IsByte message → FoundWithin message at to
 within_or_fault message at to fits all =
-    found_within message at to fits (cut_or_not (take to message) at (name_or_fault (take to message) at (each-take IsByte message to all))) (name_or_fault message at all)
+    found_within message at to fits
+    (cut_or_not (take to message) at (name_or_fault (take to message) at (each-take IsByte message to all)))
+    (name_or_fault message at all)

@@ -1,17 +1,21 @@
 -- Names whose first label run lies before a place.
-use Rattle.std.proofs.Common.{◌≡◌, ◌⊎◌, ℕ, suc, ◌+◌, ◌-◌, ◌<◌, ◌≤◌, List, [], ◌∷◌, ◌++◌, length, take, drop, get_or, Option, Some, None, Result, Ok, Err, unwrap_or, ◌↔◌, refl, sym, ◌∙◌, ap, subst, inl, inr, arith, append_assoc, length-append}
+use Rattle.std.proofs.Common.{◌≡◌, ◌⊎◌, ℕ, suc, ◌+◌, ◌-◌, ◌<◌, ◌≤◌, List, [], ◌∷◌, ◌++◌, length, take, drop, get_or}
+use Rattle.std.proofs.Common.{Option, Some, None, Result, Ok, Err, unwrap_or, ◌↔◌, refl, sym, ◌∙◌, ap, subst, inl, inr}
+use Rattle.std.proofs.Common.{arith, append_assoc, length-append}
 use Rattle.std.proofs.lemmas.List.{length-take, append-nil, drop-take, take-take}
 use Rattle.std.specs.Prelude.{IfOk}
 use Rattle.std.specs.List.{flat_map}
 use Rattle.dns_name.specs.Name.{label_wire, wire_of}
-use Rattle.dns_name.specs.Wire.{StandsAt, RootAt, LabelAt, PointerAt, Field, Leads, labels_in, after_pointer, NameAt, Reaches, IsCut, NameBreaks, RunIsCut, NameWithin, WithinBreaks, by_label, by_pointer}
+use Rattle.dns_name.specs.Wire.{StandsAt, RootAt, LabelAt, PointerAt, Field, Leads, labels_in, after_pointer, NameAt}
+use Rattle.dns_name.specs.Wire.{Reaches, IsCut, NameBreaks, RunIsCut, NameWithin, WithinBreaks, by_label, by_pointer}
 use Rattle.dns_name.specs.Fields.{IsAnswer, IsWithin}
 use Rattle.dns_name.specs.declared.wire_fault.WireFault.{WireFault}
 use Rattle.dns_name.specs.declared.wire_fault.WireFault.TheVariants.{Short, ForwardPointer}
 use Rattle.dns_name.specs.declared.wire_fault.WithinFault.{WithinFault}
 use Rattle.dns_name.specs.declared.wire_fault.WithinFault.TheVariants.{Shape, Wire}
 use Rattle.dns_name.proofs.WireLemmas.{IsStop, one_way, from_place}
-use Rattle.dns_name.proofs.ReadLemmas.{stands, pointer_stands, verdict, Ends, root_ends, cut_ends, forward_ends, one_fault, one_name, not_both, reaches-start, reaches-label}
+use Rattle.dns_name.proofs.ReadLemmas.{stands, pointer_stands, verdict, Ends, root_ends, cut_ends, forward_ends}
+use Rattle.dns_name.proofs.ReadLemmas.{one_fault, one_name, not_both, reaches-start, reaches-label}
 
 -- a name ends after its place, in the message
 abbrev IsAfter : List ℕ → ℕ → ℕ → Type 0
@@ -95,7 +99,8 @@ same_here message at one two h k why why' r q e f =
     let P : List (List ℕ) → Type 0 = λ l. length (wire_of l) ≤ 255 in
     let Q : List (List ℕ) → Type 0 = λ l. IsStop message l 0 h in
     let R : List (List ℕ) → Type 0 = λ l. IsStop message l 0 k in
-    let way = one_way message 0 at [] r.fields q.fields 0 h 0 k r.leads q.leads (subst P r.spelt r.short) (subst P q.spelt q.short) (subst Q r.spelt e.stop) (subst R q.spelt f.stop) in
+    let way = one_way message 0 at [] r.fields q.fields 0 h 0 k r.leads q.leads (subst P r.spelt r.short)
+    (subst P q.spelt q.short) (subst Q r.spelt e.stop) (subst R q.spelt f.stop) in
     (way.2, sym e.told ∙ ap (λ x. verdict x (get_or message x 0) (length message)) way.2 ∙ f.told)
 
 -- a run that stops for another reason is not cut
@@ -107,7 +112,9 @@ not_cut message at labels here why r e other place (own, far, cut) =
 
 pub one_cut : (message : List ℕ) (at place place' : ℕ) → RunIsCut message at place → RunIsCut message at place' → place ≡ place'
 one_cut message at place place' (one, far, cut) (two, far', cut') =
-    (same_here message at one two place place' (Some (Short place)) (Some (Short place')) (run_of message at one place far) (run_of message at two place' far') (cut_ends message one 0 place cut) (cut_ends message two 0 place' cut')).0
+    (same_here message at one two place place' (Some (Short place)) (Some (Short place'))
+    (run_of message at one place far) (run_of message at two place' far') (cut_ends message one 0 place cut)
+    (cut_ends message two 0 place' cut')).0
 
 -- what stands in the front of a message, and what stands in a message before a place
 front_drop : (message : List ℕ) (to at : ℕ) → at ≤ to → drop at (take to message) ≡ take (to - at) (drop at message)
@@ -196,9 +203,12 @@ within_not_cut message at to labels next (n, low) = by_end (first_run message to
 
     by_end : FirstRun message to at n.fields → (place : ℕ) → ¬ RunIsCut (take to message) at place
     by_end r = elim r.end [
-      | inl root ↦ not_cut (take to message) at (labels_in r.fields) r.here None (run r) (root_ends (take to message) (labels_in r.fields) 0 r.here root) (λ place e. absurd (cc))
+      | inl root ↦ not_cut (take to message) at (labels_in r.fields) r.here None (run r)
+          (root_ends (take to message) (labels_in r.fields) 0 r.here root) (λ place e. absurd (cc))
       | inr (offset, pointer) ↦
-          not_cut (take to message) at (labels_in r.fields) r.here (Some (ForwardPointer r.here)) (run r) (forward_ends (take to message) (labels_in r.fields) 0 r.here offset pointer (omega arith)) (λ place e. absurd (cc))
+          not_cut (take to message) at (labels_in r.fields) r.here (Some (ForwardPointer r.here)) (run r)
+          (forward_ends (take to message) (labels_in r.fields) 0 r.here offset pointer (omega arith))
+          (λ place e. absurd (cc))
     ]
 
 -- a name ends before a place, or its first run is cut there
@@ -242,7 +252,12 @@ before_or_cut message at to fits s a [] t h front f root r short = next (by_size
     next (inl low) = inl low
     next (inr high) = inr (a, (front, r, inl (let e = front_size message to fits in let g = f.1 in omega arith)))
 before_or_cut message at to fits s a (by_label l ∷ fs) t h front f root r short =
-    next (λ low. before_or_cut message at to fits s (a + (length l + 1)) fs t h (front ++ l ∷ []) f.1 root (reaches-label (take to message) at front at a l r (label_front message to a l low f.0) (front_short (front ++ l ∷ []) (labels_in fs) (subst (λ x. length (wire_of x) ≤ 255) (sym (append_assoc front (l ∷ []) (labels_in fs))) short))) (subst (λ x. length (wire_of x) ≤ 255) (sym (append_assoc front (l ∷ []) (labels_in fs))) short)) (by_size (a + (length l + 1)) to)
+    next (λ low. before_or_cut message at to fits s (a + (length l + 1)) fs t h (front ++ l ∷ []) f.1 root
+    (reaches-label (take to message) at front at a l r (label_front message to a l low f.0)
+    (front_short (front ++ l ∷ []) (labels_in fs)
+    (subst (λ x. length (wire_of x) ≤ 255) (sym (append_assoc front (l ∷ []) (labels_in fs))) short)))
+    (subst (λ x. length (wire_of x) ≤ 255) (sym (append_assoc front (l ∷ []) (labels_in fs))) short))
+    (by_size (a + (length l + 1)) to)
   where
     next : (a + (length l + 1) ≤ to → BeforeOrCut message at to (unwrap_or (after_pointer (a + (length l + 1)) fs) (h + 1)))
         → (a + (length l + 1) ≤ to) ⊎ (to < a + (length l + 1))
@@ -259,7 +274,8 @@ before_or_cut message at to fits s a (by_pointer o ∷ fs) t h front f root r sh
 pub before_place : (message : List ℕ) (at to : ℕ) (labels : List (List ℕ)) (next : ℕ) → to ≤ length message
     → ((place : ℕ) → ¬ RunIsCut (take to message) at place) → NameAt message at labels next → next ≤ to
 before_place message at to labels next fits whole n =
-    elim (before_or_cut message at to fits at at n.fields n.start n.root [] n.leads n.end (reaches-start (take to message) at) (subst (λ l. length (wire_of l) ≤ 255) n.spelt n.short)) [
+    elim (before_or_cut message at to fits at at n.fields n.start n.root [] n.leads n.end
+    (reaches-start (take to message) at) (subst (λ l. length (wire_of l) ≤ 255) n.spelt n.short)) [
       | inl low ↦ subst (λ k. k ≤ to) (sym n.after) low
       | inr (place, cut) ↦ absurd (whole place cut)
     ]

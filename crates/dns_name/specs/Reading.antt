@@ -1,5 +1,6 @@
 -- A plain reading of name texts from left to right. That it reads exactly what `Text` defines is proved.
-use Rattle.std.specs.Prelude.{ℕ, zero, suc, ◌+◌, List, [], ◌∷◌, ◌++◌, length, Bool, true, false, if◌then◌else◌, ◌==◌, bytes_eq, Option, Some, None, option_and_then, Result, Ok, Err}
+use Rattle.std.specs.Prelude.{ℕ, zero, suc, ◌+◌, List, [], ◌∷◌, ◌++◌, length, Bool, true, false, if◌then◌else◌, ◌==◌}
+use Rattle.std.specs.Prelude.{bytes_eq, Option, Some, None, option_and_then, Result, Ok, Err}
 use Rattle.enum_base.specs.Escapes.{backslash, escaped_byte}
 use Rattle.dns_name.specs.Name.{name_within}
 use Rattle.dns_name.specs.Text.{dot}

@@ -1,5 +1,6 @@
 -- Names as text (RFC 1035, section 5.1; which bytes are escaped in writing is this project's own).
-use Rattle.std.specs.Prelude.{◌≡◌, ◌≢◌, ◌⊎◌, ℕ, ◌≤◌, nat_le, List, [], ◌∷◌, ◌++◌, length, Bool, ◌&&◌, ◌||◌, IsTrue, IsFalse, if◌then◌else◌, ◌==◌, Option, Some, None, option_map}
+use Rattle.std.specs.Prelude.{◌≡◌, ◌≢◌, ◌⊎◌, ℕ, ◌≤◌, nat_le, List, [], ◌∷◌, ◌++◌, length, Bool, ◌&&◌, ◌||◌, IsTrue}
+use Rattle.std.specs.Prelude.{IsFalse, if◌then◌else◌, ◌==◌, Option, Some, None, option_map}
 use Rattle.std.specs.Borrow.{Bor}
 use Rattle.std.specs.List.{flat_map}
 use Rattle.std.specs.Char.{is_ascii_digit}

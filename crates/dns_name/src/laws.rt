@@ -1,5 +1,6 @@
 //! Laws of names.
-ghost use Rattle.dns_name.specs.Laws.{ReadsBack, PlainIsWritten, OrderIsTotal, EqualAreSame, OneName, OneFault, NotBoth, NameOrFault, OneWithin, NotBothWithin, WithinOrFault};
+ghost use Rattle.dns_name.specs.Laws.{ReadsBack, PlainIsWritten, OrderIsTotal, EqualAreSame, OneName, OneFault};
+ghost use Rattle.dns_name.specs.Laws.{NotBoth, NameOrFault, OneWithin, NotBothWithin, WithinOrFault};
 
 /// A name that is written is read again, whatever the origin.
 pub fn written_is_read_again()

@@ -113,26 +113,34 @@ IsSingle-content form.Raw message from to = IsSingle-is _
 pub IsTotal-content : (of : Form) (message : List ℕ) (from to : ℕ) → AllByRecursion IsByte message → to ≤ length message
     → from ≤ to → IsTotal (ContentIn of message from to)
 IsTotal-content form.A message from to all fits low =
-    IsTotal-then _ _ (IsTotal-last (AddressIn 4 message to) to from (IsTotal-address 4 message to from fits) (address-within 4 message to from)) (λ address h. IsTotal-is _)
+    IsTotal-then _ _ (IsTotal-last (AddressIn 4 message to) to from (IsTotal-address 4 message to from fits)
+    (address-within 4 message to from)) (λ address h. IsTotal-is _)
 IsTotal-content form.Ns message from to all fits low =
-    IsTotal-then _ _ (IsTotal-last (NameIn message to) to from (IsTotal-name_in message to from all fits) (name-within message to from)) (λ server h. IsTotal-is _)
+    IsTotal-then _ _ (IsTotal-last (NameIn message to) to from (IsTotal-name_in message to from all fits)
+    (name-within message to from)) (λ server h. IsTotal-is _)
 IsTotal-content form.Cname message from to all fits low =
-    IsTotal-then _ _ (IsTotal-last (NameIn message to) to from (IsTotal-name_in message to from all fits) (name-within message to from)) (λ target h. IsTotal-is _)
+    IsTotal-then _ _ (IsTotal-last (NameIn message to) to from (IsTotal-name_in message to from all fits)
+    (name-within message to from)) (λ target h. IsTotal-is _)
 IsTotal-content form.Soa message from to all fits low =
     IsTotal-then _ _ (IsTotal-last (SoaIn message to) to from (IsTotal-soa message to from all fits) (soa-within message to from)) (λ soa h. IsTotal-is _)
 IsTotal-content form.Ptr message from to all fits low =
-    IsTotal-then _ _ (IsTotal-last (NameIn message to) to from (IsTotal-name_in message to from all fits) (name-within message to from)) (λ name h. IsTotal-is _)
+    IsTotal-then _ _ (IsTotal-last (NameIn message to) to from (IsTotal-name_in message to from all fits)
+    (name-within message to from)) (λ name h. IsTotal-is _)
 IsTotal-content form.Mx message from to all fits low =
     IsTotal-then _ _ (IsTotal-u16 Shape message to from all fits) (λ preference h1.
-    IsTotal-then _ _ (IsTotal-last (NameIn message to) to preference.1 (IsTotal-name_in message to preference.1 all fits) (name-within message to preference.1)) (λ exchange h2. IsTotal-is _))
+    IsTotal-then _ _ (IsTotal-last (NameIn message to) to preference.1
+    (IsTotal-name_in message to preference.1 all fits) (name-within message to preference.1))
+    (λ exchange h2. IsTotal-is _))
 IsTotal-content form.Txt message from to all fits low = IsTotal-then _ _ (IsTotal-texts message from to all fits low) (λ texts h. IsTotal-is _)
 IsTotal-content form.Aaaa message from to all fits low =
-    IsTotal-then _ _ (IsTotal-last (AddressIn 16 message to) to from (IsTotal-address 16 message to from fits) (address-within 16 message to from)) (λ address h. IsTotal-is _)
+    IsTotal-then _ _ (IsTotal-last (AddressIn 16 message to) to from (IsTotal-address 16 message to from fits)
+    (address-within 16 message to from)) (λ address h. IsTotal-is _)
 IsTotal-content form.Srv message from to all fits low =
     IsTotal-then _ _ (IsTotal-u16 Shape message to from all fits) (λ priority h1.
     IsTotal-then _ _ (IsTotal-u16 Shape message to priority.1 all fits) (λ weight h2.
     IsTotal-then _ _ (IsTotal-u16 Shape message to weight.1 all fits) (λ port h3.
-    IsTotal-then _ _ (IsTotal-last (NameIn message to) to port.1 (IsTotal-name_in message to port.1 all fits) (name-within message to port.1)) (λ target h4. IsTotal-is _))))
+    IsTotal-then _ _ (IsTotal-last (NameIn message to) to port.1 (IsTotal-name_in message to port.1 all fits)
+    (name-within message to port.1)) (λ target h4. IsTotal-is _))))
 IsTotal-content form.Naptr message from to all fits low = IsTotal-then _ _ (IsTotal-rule_in message from to all fits) (λ rule h. IsTotal-is _)
 IsTotal-content form.Opt message from to all fits low = IsTotal-is _
 IsTotal-content form.Raw message from to all fits low = IsTotal-is _

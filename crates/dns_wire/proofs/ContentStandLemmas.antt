@@ -1,5 +1,7 @@
 -- Content that stands in RDATA is read as what was written.
-use Rattle.std.proofs.Common.{◌≡◌, ℕ, ◌+◌, ◌-◌, ◌<◌, List, ◌++◌, length, take, drop, Bool, true, false, ◌&&◌, ◌||◌, not, nat_lt, IsTrue, ◌==◌, if◌then◌else◌, Ok, refl, sym, ◌∙◌, ap, subst, inl, arith, append_assoc}
+use Rattle.std.proofs.Common.{◌≡◌, ℕ, ◌+◌, ◌-◌, ◌<◌, List, ◌++◌, length, take, drop, Bool, true, false, ◌&&◌, ◌||◌, not}
+use Rattle.std.proofs.Common.{nat_lt, IsTrue, ◌==◌, if◌then◌else◌, Ok, refl, sym, ◌∙◌, ap, subst, inl, arith}
+use Rattle.std.proofs.Common.{append_assoc}
 use Rattle.std.proofs.lemmas.Bool.{eqb-true, ltb-true}
 use Rattle.std.specs.Int.{w16, to_be_bytes}
 use Rattle.enum_base.specs.Stages.Then.{goes}
@@ -46,7 +48,9 @@ form_of_options kind class fits h =
 
 -- none of ten kinds
 no_kind : (x1 x2 x3 x4 x5 x6 x7 x8 x9 x10 : Bool) → (x1 || x2 || x3 || x4 || x5 || x6 || x7 || x8 || x9 || x10) ≡ false
-    → (if x1 then form.A else if x2 then form.Ns else if x3 then form.Cname else if x4 then form.Soa else if x5 then form.Ptr else if x6 then form.Mx else if x7 then form.Txt else if x8 then form.Aaaa else if x9 then form.Srv else if x10 then form.Naptr else form.Raw) ≡ form.Raw
+    → (if x1 then form.A else if x2 then form.Ns else if x3 then form.Cname else if x4 then form.Soa else if x5 then
+    form.Ptr else if x6 then form.Mx else if x7 then form.Txt else if x8 then form.Aaaa else if x9 then form.Srv
+    else if x10 then form.Naptr else form.Raw) ≡ form.Raw
 no_kind true x2 x3 x4 x5 x6 x7 x8 x9 x10 h = absurd (cc h)
 no_kind false true x3 x4 x5 x6 x7 x8 x9 x10 h = absurd (cc h)
 no_kind false false true x4 x5 x6 x7 x8 x9 x10 h = absurd (cc h)
@@ -69,7 +73,8 @@ no_form false false read one h raw = refl
 
 form_of_raw : (kind class : ℕ) (fits : Bool) → IsTrue (not (kind == opt) && not (class == internet && is_read kind) && fits) → form_of kind class ≡ form.Raw
 form_of_raw kind class fits h =
-    no_form (kind == opt) (class == internet) (is_read kind) (internet_form kind) (both_true (not (kind == opt) && not (class == internet && is_read kind)) fits h).0
+    no_form (kind == opt) (class == internet) (is_read kind) (internet_form kind)
+    (both_true (not (kind == opt) && not (class == internet && is_read kind)) fits h).0
     (no_kind (kind == a) (kind == ns) (kind == cname) (kind == soa) (kind == ptr) (kind == mx) (kind == txt) (kind == aaaa) (kind == srv) (kind == naptr))
 
 -- the form of content
@@ -130,7 +135,8 @@ srv-stands message from to priority weight port target is end h =
     goes (priority, from + 2) (U16In-stands message to from priority is.0 (omega arith) p.0) (
     goes (weight, from + 2 + 2) (U16In-stands message to (from + 2) weight is.1 (omega arith) q.0) (
     goes (port, from + 2 + 2 + 2) (U16In-stands message to (from + 2 + 2) port is.2 (omega arith) r.0) (
-    goes target (goes (target, from + 2 + 2 + 2 + length name) (NameIn-stands message to (from + 2 + 2 + 2) target is.3 (omega arith) r.1) (inl (all, refl))) refl)))
+    goes target (goes (target, from + 2 + 2 + 2 + length name)
+    (NameIn-stands message to (from + 2 + 2 + 2) target is.3 (omega arith) r.1) (inl (all, refl))) refl)))
 
 mx-stands : (message : List ℕ) (from to preference : ℕ) (exchange : List (List ℕ))
     → IsContent (content.Mx preference exchange) → to ≡ from + length (rdata_of (content.Mx preference exchange))
@@ -178,4 +184,5 @@ pub ContentIn-stands : (message : List ℕ) (from to kind class : ℕ) (what : C
     → IsTrue (belongs kind class what) → to ≡ from + length (rdata_of what) → StandsAt message from (rdata_of what)
     → ContentIn (form_of kind class) message from to (Ok what)
 ContentIn-stands message from to kind class what is own end h =
-    subst (λ (f : Form). ContentIn f message from to (Ok what)) (sym (form_of-belongs kind class what own)) (ContentIn-form message from to kind class what is own end h)
+    subst (λ (f : Form). ContentIn f message from to (Ok what)) (sym (form_of-belongs kind class what own))
+    (ContentIn-form message from to kind class what is own end h)

@@ -53,15 +53,27 @@ RuleIn-stands message from to rule is end h =
     let b = stands-append message (from + 2) preference (flags ++ (services ++ (regexp ++ name))) 2 refl a.1 in
     let c = stands-append message (from + 2 + 2) flags (services ++ (regexp ++ name)) (length rule.flags + 1) (omega arith) b.1 in
     let d = stands-append message (from + 2 + 2 + (length rule.flags + 1)) services (regexp ++ name) (length rule.services + 1) (omega arith) c.1 in
-    let e = stands-append message (from + 2 + 2 + (length rule.flags + 1) + (length rule.services + 1)) regexp name (length rule.regexp + 1) (omega arith) d.1 in
+    let e = stands-append message (from + 2 + 2 + (length rule.flags + 1) + (length rule.services + 1)) regexp name
+    (length rule.regexp + 1) (omega arith) d.1 in
     let last = from + 2 + 2 + (length rule.flags + 1) + (length rule.services + 1) + (length rule.regexp + 1) in
-    let all : last + length name ≡ to = sym (end ∙ ap (λ bytes. from + length bytes) parts ∙ omega (arith, length-append flags (services ++ (regexp ++ name)), length-append services (regexp ++ name), length-append regexp name)) in
+    let all : last + length name ≡ to =
+    sym (end ∙ ap (λ bytes. from + length bytes) parts
+    ∙ omega (
+      arith,
+      length-append flags (services ++ (regexp ++ name)),
+      length-append services (regexp ++ name),
+      length-append regexp name,
+    )) in
     goes (record rule { replacement = [] }, last) (
     goes (rule.order, from + 2) (U16In-stands message to from rule.order is.order (omega arith) a.0) (
     goes (rule.preference, from + 2 + 2) (U16In-stands message to (from + 2) rule.preference is.preference (omega arith) b.0) (
     goes (rule.flags, from + 2 + 2 + (length rule.flags + 1)) (TextIn-stands message to (from + 2 + 2) rule.flags is.flags (omega arith) c.0) (
-    goes (rule.services, from + 2 + 2 + (length rule.flags + 1) + (length rule.services + 1)) (TextIn-stands message to (from + 2 + 2 + (length rule.flags + 1)) rule.services is.services (omega arith) d.0) (
-    goes (rule.regexp, last) (TextIn-stands message to (from + 2 + 2 + (length rule.flags + 1) + (length rule.services + 1)) rule.regexp is.regexp (omega arith) e.0) refl))))) (
+    goes (rule.services, from + 2 + 2 + (length rule.flags + 1) + (length rule.services + 1))
+    (TextIn-stands message to (from + 2 + 2 + (length rule.flags + 1)) rule.services is.services (omega arith) d.0)
+    (
+    goes (rule.regexp, last) (TextIn-stands message to
+    (from + 2 + 2 + (length rule.flags + 1) + (length rule.services + 1)) rule.regexp is.regexp
+    (omega arith) e.0) refl))))) (
     goes (rule.replacement, last + length name) (NameIn-stands message to last rule.replacement is.replacement (omega arith) e.1) (inl (all, refl)))
 
 pub TextsStand-stands : (message : List ℕ) (at to : ℕ) (texts : List (List ℕ)) → AllByRecursion IsText texts
@@ -98,12 +110,25 @@ SoaIn-stands message from to soa is end h =
     let d = stands-append message (from + length mname + length rname + 4) refresh (retry ++ (expire ++ minimum)) 4 refl c.1 in
     let e = stands-append message (from + length mname + length rname + 4 + 4) retry (expire ++ minimum) 4 refl d.1 in
     let f = stands-append message (from + length mname + length rname + 4 + 4 + 4) expire minimum 4 refl e.1 in
-    let all : from + length mname + length rname + 4 + 4 + 4 + 4 + 4 ≡ to = sym (end ∙ ap (λ bytes. from + length bytes) parts ∙ omega (arith, length-append mname (rname ++ (serial ++ (refresh ++ (retry ++ (expire ++ minimum))))), length-append rname (serial ++ (refresh ++ (retry ++ (expire ++ minimum)))))) in
+    let all : from + length mname + length rname + 4 + 4 + 4 + 4 + 4 ≡ to =
+    sym (end ∙ ap (λ bytes. from + length bytes) parts
+    ∙ omega (
+      arith,
+      length-append mname (rname ++ (serial ++ (refresh ++ (retry ++ (expire ++ minimum))))),
+      length-append rname (serial ++ (refresh ++ (retry ++ (expire ++ minimum)))),
+    )) in
     goes (soa.mname, from + length mname) (NameIn-stands message to from soa.mname is.mname (omega arith) a.0) (
     goes (soa.rname, from + length mname + length rname) (NameIn-stands message to (from + length mname) soa.rname is.rname (omega arith) b.0) (
-    goes (soa.serial, from + length mname + length rname + 4) (U32In-stands message to (from + length mname + length rname) soa.serial is.serial (omega arith) c.0) (
-    goes (soa.refresh, from + length mname + length rname + 4 + 4) (U32In-stands message to (from + length mname + length rname + 4) soa.refresh is.refresh (omega arith) d.0) (
-    goes (soa.retry, from + length mname + length rname + 4 + 4 + 4) (U32In-stands message to (from + length mname + length rname + 4 + 4) soa.retry is.retry (omega arith) e.0) (
-    goes (soa.expire, from + length mname + length rname + 4 + 4 + 4 + 4) (U32In-stands message to (from + length mname + length rname + 4 + 4 + 4) soa.expire is.expire (omega arith) f.0) (
-    goes (soa.minimum, from + length mname + length rname + 4 + 4 + 4 + 4 + 4) (U32In-stands message to (from + length mname + length rname + 4 + 4 + 4 + 4) soa.minimum is.minimum (omega arith) f.1)
+    goes (soa.serial, from + length mname + length rname + 4)
+    (U32In-stands message to (from + length mname + length rname) soa.serial is.serial (omega arith) c.0) (
+    goes (soa.refresh, from + length mname + length rname + 4 + 4)
+    (U32In-stands message to (from + length mname + length rname + 4) soa.refresh is.refresh (omega arith) d.0) (
+    goes (soa.retry, from + length mname + length rname + 4 + 4 + 4)
+    (U32In-stands message to (from + length mname + length rname + 4 + 4) soa.retry is.retry (omega arith) e.0) (
+    goes (soa.expire, from + length mname + length rname + 4 + 4 + 4 + 4)
+    (U32In-stands message to (from + length mname + length rname + 4 + 4 + 4) soa.expire is.expire
+    (omega arith) f.0) (
+    goes (soa.minimum, from + length mname + length rname + 4 + 4 + 4 + 4 + 4)
+    (U32In-stands message to (from + length mname + length rname + 4 + 4 + 4 + 4) soa.minimum is.minimum
+    (omega arith) f.1)
     (ap (λ place. Ok (soa, place)) (sym all))))))))

@@ -1,4 +1,6 @@
-use Rattle.std.proofs.Common.{◌≡◌, ℕ, zero, suc, ◌+◌, ◌-◌, ◌*◌, ◌/◌, ◌%◌, ◌^◌, ◌<◌, ◌≤◌, List, [], ◌∷◌, ◌++◌, length, take, drop, slice_range, ◌⊎◌, inl, inr, refl, sym, ◌∙◌, ap, subst, arith, append_assoc, length-append}
+use Rattle.std.proofs.Common.{◌≡◌, ℕ, zero, suc, ◌+◌, ◌-◌, ◌*◌, ◌/◌, ◌%◌, ◌^◌, ◌<◌, ◌≤◌, List, [], ◌∷◌, ◌++◌, length}
+use Rattle.std.proofs.Common.{take, drop, slice_range, ◌⊎◌, inl, inr, refl, sym, ◌∙◌, ap, subst, arith, append_assoc}
+use Rattle.std.proofs.Common.{length-append}
 use Rattle.std.proofs.lemmas.List.{take_at, drop_at, drop-drop, append-nil, length-take, length-drop, take-append-drop, take_rest}
 use Rattle.std.proofs.lemmas.Grind.{flat_map-append}
 use Rattle.std.specs.List.{AllByRecursion}
@@ -75,7 +77,8 @@ one_cut bytes one other rest rest' h k = same one other (sym h.parts ∙ k.parts
         absurd (k.end m (framed_all ms ++ rest) (subst P is (front_of_all m ms rest f.0)))
     same (m ∷ ms) (n ∷ ns) is f g =
         let P : List ℕ → Type 0 = λ b. BeginsWith b m (framed_all ms ++ rest) in
-        let first = BeginsWith-one (framed_all (n ∷ ns) ++ rest') m n (framed_all ms ++ rest) (framed_all ns ++ rest') (subst P is (front_of_all m ms rest f.0)) (front_of_all n ns rest' g.0) in
+        let first = BeginsWith-one (framed_all (n ∷ ns) ++ rest') m n (framed_all ms ++ rest) (framed_all ns
+        ++ rest') (subst P is (front_of_all m ms rest f.0)) (front_of_all n ns rest' g.0) in
         let more = same ms ns first.1 f.1 g.1 in
         ((λ i. first.0 i ∷ more.0 i), more.1)
 
@@ -155,7 +158,8 @@ cut_within more [] each room = cut_short [] (omega arith)
 cut_within more (high ∷ []) each room = cut_short (high ∷ []) (omega arith)
 cut_within zero (high ∷ low ∷ tail) each room = absurd (omega arith)
 cut_within (suc more) (high ∷ low ∷ tail) each room =
-    cut_after more high low (256 * high + low) tail (λ bytes each room. cut_within more bytes each room) each (omega arith) refl (by_size (256 * high + low) (length tail))
+    cut_after more high low (256 * high + low) tail (λ bytes each room. cut_within more bytes each room) each
+    (omega arith) refl (by_size (256 * high + low) (length tail))
 
 -- every stream has a cut
 pub some_cut : SomeCut
@@ -217,7 +221,9 @@ step bytes place next message after h first at =
     let joined : framed_all (given ++ message ∷ []) ≡ front =
     flat_map-append framed given (message ∷ []) ∙ ap (λ x. framed_all given ++ x) (append-nil (framed message)) in
     let taken : take next bytes ≡ front = ap (take next) all ∙ take_at front after next seam in
-    let read = AreWhole-read (take next bytes) (given ++ message ∷ []) (AllByRecursion-append FitsFrame given (message ∷ []) h.front.fit (first.fits, tt)) (joined ∙ sym taken) in
+    let read = AreWhole-read (take next bytes) (given
+    ++ message ∷ []) (AllByRecursion-append FitsFrame given (message ∷ []) h.front.fit (first.fits, tt))
+    (joined ∙ sym taken) in
     let room : length bytes ≡ length front + length after = ap length all ∙ length-append front after in
     record {
       whole = record { inside = omega arith; front = read.0 };
@@ -250,7 +256,9 @@ HasGiven-front bytes place size h first room =
 
 -- the same, as a slice of what is held
 pub HasGiven-held : (bytes held : List ℕ) (place size : ℕ) → held ≡ bytes → IsFrontWhole bytes place
-    → BeginsWith (take (length held - place) (drop place held)) (take size (drop 2 (take (length held - place) (drop place held)))) (drop size (drop 2 (take (length held - place) (drop place held))))
+    → BeginsWith (take (length held - place) (drop place held))
+    (take size (drop 2 (take (length held - place) (drop place held))))
+    (drop size (drop 2 (take (length held - place) (drop place held))))
     → 2 + size ≤ length (take (length held - place) (drop place held)) → HasGiven bytes place (place + 2 + size)
 HasGiven-held bytes held place size is h first room =
     let rest : take (length held - place) (drop place held) ≡ drop place bytes = take_rest held place ∙ ap (drop place) is in

@@ -53,7 +53,8 @@ reading-more one start limit n m items at item next r step h low = record {
   low = low;
 }
 
-pub reading-stops : {A : Type 0} (one : ℕ → Result (A × ℕ) DecodeFault → Type 0) (start limit n total : ℕ) (items : List A) (at : ℕ) (fault : DecodeFault) (result : Result (List A × ℕ) DecodeFault)
+pub reading-stops : {A : Type 0} (one : ℕ → Result (A × ℕ) DecodeFault → Type 0) (start limit n total : ℕ)
+    (items : List A) (at : ℕ) (fault : DecodeFault) (result : Result (List A × ℕ) DecodeFault)
     → IsReadingItems one start limit n items at → n < total → OrMemory (one at) (Err fault)
     → IsErrAnd result (λ told. told ≡ fault) → OrMemory (ItemsAt one total start) result
 reading-stops one start limit n total items at fault (Ok value) r low h is = absurd is

@@ -69,7 +69,9 @@ free-told {A} One = record { lacks = lacks }
 
 free-question : (message : List ℕ) (at : ℕ) → IsFree (QuestionAt message at)
 free-question message at =
-    free-then _ _ (free-name message at) (λ name. free-then _ _ (free-number message name.1) (λ kind. free-then _ _ (free-number message kind.1) (λ class. free-ok _)))
+    free-then _ _ (free-name message at)
+    (λ name. free-then _ _ (free-number message name.1)
+    (λ kind. free-then _ _ (free-number message kind.1) (λ class. free-ok _)))
 
 free-length : (message : List ℕ) (at : ℕ) → IsFree (LengthAt message at)
 free-length message at = record { lacks = lacks }

@@ -51,13 +51,15 @@ answers_stop bytes header questions fault (Err told) h k (inl l) is =
     inl (goes header h (goes questions (sure (Questions bytes header) questions k) (stops fault l (ap Err is))))
 answers_stop bytes header questions fault (Err told) h k (inr none) is = let first : fault ≡ Memory = cc in inr (ap Err (is ∙ first))
 
-pub authority_stops : (bytes : List ℕ) (header : Header × Counts) (questions : List Question × ℕ) (answers : List Record × ℕ) (fault : DecodeFault) (result : Result Message DecodeFault)
+pub authority_stops : (bytes : List ℕ) (header : Header × Counts) (questions : List Question × ℕ)
+    (answers : List Record × ℕ) (fault : DecodeFault) (result : Result Message DecodeFault)
     → HeaderAt bytes (Ok header) → OrMemory (Questions bytes header) (Ok questions)
     → OrMemory (Answers bytes header questions.1) (Ok answers) → OrMemory (Authority bytes header answers.1) (Err fault)
     → IsErrAnd result (λ told. told ≡ fault) → OrMemory (MessageIs bytes) result
 authority_stops bytes header questions answers fault (Ok value) h k l m is = absurd is
 authority_stops bytes header questions answers fault (Err told) h k l (inl m) is =
-    inl (goes header h (goes questions (sure (Questions bytes header) questions k) (goes answers (sure (Answers bytes header questions.1) answers l) (stops fault m (ap Err is)))))
+    inl (goes header h (goes questions (sure (Questions bytes header) questions k)
+    (goes answers (sure (Answers bytes header questions.1) answers l) (stops fault m (ap Err is)))))
 authority_stops bytes header questions answers fault (Err told) h k l (inr none) is = let first : fault ≡ Memory = cc in inr (ap Err (is ∙ first))
 
 -- what is read of a message as far as its last section
@@ -67,26 +69,49 @@ pub record Sections (bytes : List ℕ) (header : Header × Counts) (questions : 
   pub answers_read : OrMemory (Answers bytes header questions.1) (Ok answers)
   pub authority_read : OrMemory (Authority bytes header answers.1) (Ok authority)
 
-pub additional_stops : (bytes : List ℕ) (header : Header × Counts) (questions : List Question × ℕ) (answers authority : List Record × ℕ) (fault : DecodeFault) (result : Result Message DecodeFault)
+pub additional_stops : (bytes : List ℕ) (header : Header × Counts) (questions : List Question × ℕ)
+    (answers authority : List Record × ℕ) (fault : DecodeFault) (result : Result Message DecodeFault)
     → Sections bytes header questions answers authority → OrMemory (Additional bytes header authority.1) (Err fault)
     → IsErrAnd result (λ told. told ≡ fault) → OrMemory (MessageIs bytes) result
 additional_stops bytes header questions answers authority fault (Ok value) s m is = absurd is
 additional_stops bytes header questions answers authority fault (Err told) s (inl m) is =
-    inl (goes header s.header_read (goes questions (sure (Questions bytes header) questions s.questions_read) (goes answers (sure (Answers bytes header questions.1) answers s.answers_read) (goes authority (sure (Authority bytes header answers.1) authority s.authority_read) (stops fault m (ap Err is))))))
+    inl (goes header s.header_read
+    (goes questions (sure (Questions bytes header) questions s.questions_read)
+    (goes answers (sure (Answers bytes header questions.1) answers s.answers_read)
+    (goes authority (sure (Authority bytes header answers.1) authority s.authority_read)
+    (stops fault m (ap Err is))))))
 additional_stops bytes header questions answers authority fault (Err told) s (inr none) is = let first : fault ≡ Memory = cc in inr (ap Err (is ∙ first))
 
 pub trails : (bytes : List ℕ) (header : Header × Counts) (questions : List Question × ℕ) (answers authority additional : List Record × ℕ)
     → Sections bytes header questions answers authority → OrMemory (Additional bytes header authority.1) (Ok additional)
     → additional.1 < length bytes → OrMemory (MessageIs bytes) (Err (Trailing additional.1))
 trails bytes header questions answers authority additional s m more =
-    inl (goes header s.header_read (goes questions (sure (Questions bytes header) questions s.questions_read) (goes answers (sure (Answers bytes header questions.1) answers s.answers_read) (goes authority (sure (Authority bytes header answers.1) authority s.authority_read) (goes additional (sure (Additional bytes header authority.1) additional m) (inr (more, refl)))))))
+    inl (goes header s.header_read
+    (goes questions (sure (Questions bytes header) questions s.questions_read)
+    (goes answers (sure (Answers bytes header questions.1) answers s.answers_read)
+    (goes authority (sure (Authority bytes header answers.1) authority s.authority_read)
+    (goes additional (sure (Additional bytes header authority.1) additional m) (inr (more, refl)))))))
 
-pub spells : (bytes : List ℕ) (header : Header × Counts) (questions : List Question × ℕ) (answers authority additional : List Record × ℕ) (fits : IsTrue (are_counted questions.0 answers.0 authority.0 additional.0))
+pub spells : (bytes : List ℕ) (header : Header × Counts) (questions : List Question × ℕ)
+    (answers authority additional : List Record × ℕ)
+    (fits : IsTrue (are_counted questions.0 answers.0 authority.0 additional.0))
     → Sections bytes header questions answers authority → OrMemory (Additional bytes header authority.1) (Ok additional)
     → additional.1 ≤ length bytes → length bytes ≤ additional.1
-    → OrMemory (MessageIs bytes) (Ok (record { header = header.0; questions = questions.0; answers = answers.0; authority = authority.0; additional = additional.0; counted = fits }))
+    → OrMemory (MessageIs bytes)
+    (Ok (record {
+      header = header.0;
+      questions = questions.0;
+      answers = answers.0;
+      authority = authority.0;
+      additional = additional.0;
+      counted = fits;
+    }))
 spells bytes header questions answers authority additional fits s m low high =
-    inl (goes header s.header_read (goes questions (sure (Questions bytes header) questions s.questions_read) (goes answers (sure (Answers bytes header questions.1) answers s.answers_read) (goes authority (sure (Authority bytes header answers.1) authority s.authority_read) (goes additional (sure (Additional bytes header authority.1) additional m) (inl (omega arith, fits, refl)))))))
+    inl (goes header s.header_read
+    (goes questions (sure (Questions bytes header) questions s.questions_read)
+    (goes answers (sure (Answers bytes header questions.1) answers s.answers_read)
+    (goes authority (sure (Authority bytes header answers.1) authority s.authority_read)
+    (goes additional (sure (Additional bytes header authority.1) additional m) (inl (omega arith, fits, refl)))))))
 
 -- the counts of a header are numbers of 16 bits
 pub number_small : (message : List ℕ) (at : ℕ) (read : ℕ × ℕ) → U16At message at (Ok read) → read.0 ≤ 65535
@@ -104,7 +129,15 @@ pub record AreSmall (counts : Counts) : Type 0 where
 pub header_small : (message : List ℕ) (read : Header × Counts) → HeaderAt message (Ok read) → AreSmall read.1
 header_small message read (inr (short, is)) = absurd cc
 header_small message read (inl (room, goes id h1 (goes bits h2 (goes questions h3 (goes answers h4 (goes authority h5 (goes additional h6 is))))))) =
-    let pair : ◌≡◌ {A = Header × Counts} read (record { id = id.0; bits = bits.0 }, record { questions = questions.0; answers = answers.0; authority = authority.0; additional = additional.0 }) = cc in
+    let pair : ◌≡◌ {A = Header × Counts} read (
+      record { id = id.0; bits = bits.0 },
+      record {
+        questions = questions.0;
+        answers = answers.0;
+        authority = authority.0;
+        additional = additional.0;
+      },
+    ) = cc in
     subst AreSmall (sym (ap (λ (x : Header × Counts). x.1) pair)) (record {
       questions = number_small message bits.1 questions h3;
       answers = number_small message questions.1 answers h4;
@@ -145,4 +178,8 @@ pub few_read : (bytes : List ℕ) (header : Header × Counts) (questions : List 
     → Sections bytes header questions answers authority → OrMemory (Additional bytes header authority.1) (Ok additional)
     → IsTrue (are_counted questions.0 answers.0 authority.0 additional.0)
 few_read bytes header questions answers authority additional s m =
-    are_few bytes header questions answers authority additional s.header_read (sure (Questions bytes header) questions s.questions_read) (sure (Answers bytes header questions.1) answers s.answers_read) (sure (Authority bytes header answers.1) authority s.authority_read) (sure (Additional bytes header authority.1) additional m)
+    are_few bytes header questions answers authority additional s.header_read
+    (sure (Questions bytes header) questions s.questions_read)
+    (sure (Answers bytes header questions.1) answers s.answers_read)
+    (sure (Authority bytes header answers.1) authority s.authority_read)
+    (sure (Additional bytes header authority.1) additional m)

@@ -1,5 +1,6 @@
 -- A message that is spelt without pointers is read as that message.
-use Rattle.std.proofs.Common.{◌≡◌, ℕ, ◌+◌, ◌<◌, ◌≤◌, ◌^◌, List, [], ◌∷◌, ◌++◌, length, ◌&&◌, Result, Ok, refl, sym, ◌∙◌, ap, subst, inl, arith, append_assoc, length-append}
+use Rattle.std.proofs.Common.{◌≡◌, ℕ, ◌+◌, ◌<◌, ◌≤◌, ◌^◌, List, [], ◌∷◌, ◌++◌, length, ◌&&◌, Result, Ok, refl, sym, ◌∙◌}
+use Rattle.std.proofs.Common.{ap, subst, inl, arith, append_assoc, length-append}
 use Rattle.std.proofs.lemmas.Bool.{and_parts, leb-true}
 use Rattle.std.specs.Int.{w16, w32, to_be_bytes}
 use Rattle.std.specs.List.{AllByRecursion, flat_map}
@@ -74,7 +75,13 @@ RecordAt-stands message short at one is h =
     goes (one.class, at + length owner + 2 + 2) (U16At-stands message (at + length owner + 2) one.class is.class c.0) (
     goes (one.ttl, place) (U32At-stands message (at + length owner + 2 + 2) one.ttl is.ttl d.0) (
     goes (place + 2 + length rdata, place + 2) (goes (length rdata, place + 2) (U16At-stands message place (length rdata) small e.0) (inl (room, refl))) (
-    goes one.content (inl (one.content, ContentIn-stands message (place + 2) (place + 2 + length rdata) one.kind one.class one.content is.content one.belongs refl e.1, refl))
+    goes one.content
+    (inl (
+      one.content,
+      ContentIn-stands message (place + 2) (place + 2 + length rdata) one.kind one.class
+          one.content is.content one.belongs refl e.1,
+      refl,
+    ))
     (one.belongs, ap (λ n. Ok (one, n)) end))))))
 
 -- items that stand one after another are read as such, if each is
@@ -101,7 +108,8 @@ record Counted (message : Message) : Type 0 where
 
 counted : (message : Message) → Counted message
 counted message =
-    let d = and_parts (is_counted message.questions && is_counted message.answers && is_counted message.authority) (is_counted message.additional) message.counted in
+    let d = and_parts (is_counted message.questions && is_counted message.answers && is_counted message.authority)
+    (is_counted message.additional) message.counted in
     let c = and_parts (is_counted message.questions && is_counted message.answers) (is_counted message.authority) d.0 in
     let b = and_parts (is_counted message.questions) (is_counted message.answers) c.0 in
     let q = leb-true (length message.questions) 65_535 b.0 in
@@ -129,7 +137,8 @@ HeaderAt-stands message is bytes rest whole =
     let authority = to_be_bytes w16 counts.authority in
     let additional = to_be_bytes w16 counts.additional in
     let parts : bytes ≡ id ++ (bits ++ (questions ++ (answers ++ (authority ++ (additional ++ rest))))) = whole ∙ simp append_assoc in
-    let a = stands-append bytes 0 id (bits ++ (questions ++ (answers ++ (authority ++ (additional ++ rest))))) 2 refl (subst (λ (part : List ℕ). StandsAt bytes 0 part) parts (stands-whole bytes)) in
+    let a = stands-append bytes 0 id (bits ++ (questions ++ (answers ++ (authority ++ (additional ++ rest))))) 2 refl
+    (subst (λ (part : List ℕ). StandsAt bytes 0 part) parts (stands-whole bytes)) in
     let b = stands-append bytes 2 bits (questions ++ (answers ++ (authority ++ (additional ++ rest)))) 2 refl a.1 in
     let c = stands-append bytes 4 questions (answers ++ (authority ++ (additional ++ rest))) 2 refl b.1 in
     let d = stands-append bytes 6 answers (authority ++ (additional ++ rest)) 2 refl c.1 in
@@ -166,10 +175,23 @@ reads_back message is short =
     let c = stands-append bytes (12 + length questions + length answers) authority additional (length authority) refl b.1 in
     let size : length bytes ≡ 12 + length (sections message) = ap length whole ∙ omega arith in
     let end : 12 + length questions + length answers + length authority + length additional ≡ length bytes =
-    sym (size ∙ omega (arith, length-append questions (answers ++ (authority ++ additional)), length-append answers (authority ++ additional), length-append authority additional)) in
+    sym (size ∙ omega (
+      arith,
+      length-append questions (answers ++ (authority ++ additional)),
+      length-append answers (authority ++ additional),
+      length-append authority additional,
+    )) in
     goes (message.header, counts_of message) start.0 (
-    goes (message.questions, 12 + length questions) (ItemsAt-stands bytes (QuestionAt bytes) question_wire IsQuestion (QuestionAt-stands bytes) 12 message.questions is.questions a.0) (
-    goes (message.answers, 12 + length questions + length answers) (ItemsAt-stands bytes (RecordAt bytes) record_wire IsRecord record_at (12 + length questions) message.answers is.answers b.0) (
-    goes (message.authority, 12 + length questions + length answers + length authority) (ItemsAt-stands bytes (RecordAt bytes) record_wire IsRecord record_at (12 + length questions + length answers) message.authority is.authority c.0) (
-    goes (message.additional, 12 + length questions + length answers + length authority + length additional) (ItemsAt-stands bytes (RecordAt bytes) record_wire IsRecord record_at (12 + length questions + length answers + length authority) message.additional is.additional c.1)
+    goes (message.questions, 12 + length questions)
+    (ItemsAt-stands bytes (QuestionAt bytes) question_wire IsQuestion
+    (QuestionAt-stands bytes) 12 message.questions is.questions a.0) (
+    goes (message.answers, 12 + length questions + length answers)
+    (ItemsAt-stands bytes (RecordAt bytes) record_wire IsRecord record_at
+    (12 + length questions) message.answers is.answers b.0) (
+    goes (message.authority, 12 + length questions + length answers + length authority)
+    (ItemsAt-stands bytes (RecordAt bytes) record_wire IsRecord record_at
+    (12 + length questions + length answers) message.authority is.authority c.0) (
+    goes (message.additional, 12 + length questions + length answers + length authority + length additional)
+    (ItemsAt-stands bytes (RecordAt bytes) record_wire IsRecord record_at
+    (12 + length questions + length answers + length authority) message.additional is.additional c.1)
     (inl (end, message.counted, refl))))))

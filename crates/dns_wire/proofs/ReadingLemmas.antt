@@ -133,7 +133,11 @@ made : (owner : List (List ℕ)) (kind class ttl : ℕ) (what : Content) (to : �
 made owner kind class ttl what to fits = Ok (record { owner = owner; kind = kind; class = class; ttl = ttl; content = what; belongs = fits }, to)
 
 IsSingle-made : (owner : List (List ℕ)) (kind class ttl : ℕ) (what : Content) (to : ℕ)
-    → IsSingle (λ (all : Result (Record × ℕ) DecodeFault). (fits : IsTrue (belongs kind class what)) × (all ≡ Ok (record { owner = owner; kind = kind; class = class; ttl = ttl; content = what; belongs = fits }, to)))
+    → IsSingle (λ (all : Result (Record × ℕ) DecodeFault). (fits : IsTrue (belongs kind class what))
+    × (all ≡ Ok (
+      record { owner = owner; kind = kind; class = class; ttl = ttl; content = what; belongs = fits },
+      to,
+    )))
 unfolding made
 IsSingle-made owner kind class ttl what to = record { same = λ r s h k. h.1 ∙ ap (made owner kind class ttl what to) (Bool-set _ _ h.0 k.0) ∙ sym k.1 }
 
@@ -144,7 +148,8 @@ IsSingle-record message at =
     IsSingle-then _ _ (IsSingle-u16 Short message (length message) kind.1) (λ class.
     IsSingle-then _ _ (IsSingle-u32 Short message (length message) class.1) (λ ttl.
     IsSingle-then _ _ (IsSingle-length message ttl.1) (λ rdata.
-    IsSingle-then _ _ (IsSingle-told of_rdata (ContentIn (form_of kind.0 class.0) message rdata.1 rdata.0) (IsSingle-content (form_of kind.0 class.0) message rdata.1 rdata.0)) (λ what.
+    IsSingle-then _ _ (IsSingle-told of_rdata (ContentIn (form_of kind.0 class.0) message rdata.1 rdata.0)
+    (IsSingle-content (form_of kind.0 class.0) message rdata.1 rdata.0)) (λ what.
     IsSingle-made owner.0 kind.0 class.0 ttl.0 what rdata.0))))))
 
 told_content : (of : Form) (message : List ℕ) (from to : ℕ) (what : Content)
@@ -160,8 +165,10 @@ IsTotal-record message at all =
     IsTotal-then _ _ (IsTotal-u32 Short message (length message) class.1 all (omega arith)) (λ ttl h4.
     IsTotal-then _ _ (IsTotal-length message ttl.1 all) (λ rdata h5.
     let span = length_span message ttl.1 rdata h5 in
-    IsTotal-then _ _ (IsTotal-told of_rdata (ContentIn (form_of kind.0 class.0) message rdata.1 rdata.0) (IsTotal-content (form_of kind.0 class.0) message rdata.1 rdata.0 all span.inside span.size)) (λ what h6.
-    let fits = belongs_of kind.0 class.0 (form_of kind.0 class.0) message rdata.1 rdata.0 what (form_fits kind.0 class.0) span.few (told_content (form_of kind.0 class.0) message rdata.1 rdata.0 what h6) in
+    IsTotal-then _ _ (IsTotal-told of_rdata (ContentIn (form_of kind.0 class.0) message rdata.1 rdata.0)
+    (IsTotal-content (form_of kind.0 class.0) message rdata.1 rdata.0 all span.inside span.size)) (λ what h6.
+    let fits = belongs_of kind.0 class.0 (form_of kind.0 class.0) message rdata.1 rdata.0 what
+    (form_fits kind.0 class.0) span.few (told_content (form_of kind.0 class.0) message rdata.1 rdata.0 what h6) in
     record { result = _; comes = (fits, refl) }))))))
 
 record-within : (message : List ℕ) (at : ℕ) (read : Record × ℕ) → RecordAt message at (Ok read) → read.1 ≤ length message
@@ -303,4 +310,5 @@ IsTotal-message bytes all =
     let low2 = items-within (RecordAt bytes) (length bytes) (record-within bytes) header.1.answers questions.1 low1 answers h3 in
     let low3 = items-within (RecordAt bytes) (length bytes) (record-within bytes) header.1.authority answers.1 low2 authority h4 in
     let low4 = items-within (RecordAt bytes) (length bytes) (record-within bytes) header.1.additional authority.1 low3 additional h5 in
-    IsTotal-ending bytes header.0 questions.0 answers.0 authority.0 additional (are_few bytes header questions answers authority additional h1 h2 h3 h4 h5) low4)))))
+    IsTotal-ending bytes header.0 questions.0 answers.0 authority.0 additional
+    (are_few bytes header questions answers authority additional h1 h2 h3 h4 h5) low4)))))

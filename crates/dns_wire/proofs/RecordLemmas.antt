@@ -1,5 +1,7 @@
 -- Records in messages: their content belongs to their kind and class.
-use Rattle.std.proofs.Common.{◌≡◌, ℕ, ◌+◌, ◌-◌, ◌≤◌, ◌==◌, ◌&&◌, ◌||◌, not, nat_le, nat_lt, if◌then◌else◌, Bool, true, false, IsTrue, List, length, drop, Result, Ok, Err, refl, sym, ◌∙◌, ap, subst, inl, inr, arith}
+use Rattle.std.proofs.Common.{◌≡◌, ℕ, ◌+◌, ◌-◌, ◌≤◌, ◌==◌, ◌&&◌, ◌||◌, not, nat_le, nat_lt, if◌then◌else◌, Bool, true}
+use Rattle.std.proofs.Common.{false, IsTrue, List, length, drop, Result, Ok, Err, refl, sym, ◌∙◌, ap, subst, inl, inr}
+use Rattle.std.proofs.Common.{arith}
 use Rattle.std.proofs.lemmas.Bool.{lt-ltb, le-leb}
 use Rattle.std.proofs.lemmas.List.{length-take}
 use Rattle.std.specs.Result.{IsErrAnd}
@@ -61,7 +63,9 @@ not_first true t h = absurd cc
 pub form_fits : (kind class : ℕ) → Fits kind class (form_of kind class)
 form_fits kind class =
     choose P form.Opt (if class == internet then internet_form kind else form.Raw) (kind == opt) (λ h. h) (λ other.
-    choose P (internet_form kind) form.Raw (class == internet) (λ in_class. read other in_class) (λ no. both (not (kind == opt)) (not (class == internet && is_read kind)) other (not_first (class == internet) (is_read kind) no)))
+    choose P (internet_form kind) form.Raw (class == internet) (λ in_class. read other in_class)
+    (λ no. both (not (kind == opt)) (not (class == internet && is_read kind)) other
+    (not_first (class == internet) (is_read kind) no)))
   where
     P : Form → Type 0
     P = Fits kind class
@@ -78,14 +82,22 @@ form_fits kind class =
         choose P form.Aaaa _ (kind == aaaa) (λ h. both (kind == aaaa) (class == internet) h here) (λ n8.
         choose P form.Srv _ (kind == srv) (λ h. both (kind == srv) (class == internet) h here) (λ n9.
         choose P form.Naptr form.Raw (kind == naptr) (λ h. both (kind == naptr) (class == internet) h here) (λ n10.
-        both (not (kind == opt)) (not (class == internet && is_read kind)) other (not_both (class == internet) (is_read kind) (unread n1 n2 n3 n4 n5 n6 n7 n8 n9 n10))))))))))))
+        both (not (kind == opt)) (not (class == internet && is_read kind)) other
+        (not_both (class == internet) (is_read kind) (unread n1 n2 n3 n4 n5 n6 n7 n8 n9 n10))))))))))))
       where
         unread : IsTrue (not (kind == a)) → IsTrue (not (kind == ns)) → IsTrue (not (kind == cname))
             → IsTrue (not (kind == soa)) → IsTrue (not (kind == ptr)) → IsTrue (not (kind == mx))
             → IsTrue (not (kind == txt)) → IsTrue (not (kind == aaaa)) → IsTrue (not (kind == srv))
             → IsTrue (not (kind == naptr)) → IsTrue (not (is_read kind))
         unread n1 n2 n3 n4 n5 n6 n7 n8 n9 n10 =
-            neither _ (kind == naptr) (neither _ (kind == srv) (neither _ (kind == aaaa) (neither _ (kind == txt) (neither _ (kind == mx) (neither _ (kind == ptr) (neither _ (kind == soa) (neither _ (kind == cname) (neither (kind == a) (kind == ns) n1 n2) n3) n4) n5) n6) n7) n8) n9) n10
+            neither _ (kind == naptr)
+            (neither _ (kind == srv)
+            (neither _ (kind == aaaa)
+            (neither _ (kind == txt)
+            (neither _ (kind == mx)
+            (neither _ (kind == ptr)
+            (neither _ (kind == soa)
+            (neither _ (kind == cname) (neither (kind == a) (kind == ns) n1 n2) n3) n4) n5) n6) n7) n8) n9) n10
 
 texts_some : (message : List ℕ) (from to : ℕ) (texts : List (List ℕ)) → TextsIn message from to (Ok texts) → IsTrue (nat_lt 0 (length texts))
 texts_some message from to texts (inl (own, stand, some, is)) =
@@ -127,10 +139,14 @@ belongs_of kind class form.Naptr message from to what fits few h =
     let m = made_value content.Naptr (RuleIn message from to) what h in subst (λ x. IsTrue (belongs kind class x)) m.2 fits
 belongs_of kind class form.Opt message from to what fits few is =
     let same : content.Opt (bytes_between message from to) ≡ what = cc in
-    subst (λ x. IsTrue (belongs kind class x)) same (both (kind == opt) (nat_le (length (bytes_between message from to)) 65535) fits (bytes_few message from to few))
+    subst (λ x. IsTrue (belongs kind class x)) same
+    (both (kind == opt) (nat_le (length (bytes_between message from to)) 65535) fits
+    (bytes_few message from to few))
 belongs_of kind class form.Raw message from to what fits few is =
     let same : content.Raw (bytes_between message from to) ≡ what = cc in
-    subst (λ x. IsTrue (belongs kind class x)) same (both (not (kind == opt) && not (class == internet && is_read kind)) (nat_le (length (bytes_between message from to)) 65535) fits (bytes_few message from to few))
+    subst (λ x. IsTrue (belongs kind class x)) same
+    (both (not (kind == opt) && not (class == internet && is_read kind))
+    (nat_le (length (bytes_between message from to)) 65535) fits (bytes_few message from to few))
 
 -- where RDATA begins and ends
 pub record IsSpan (message : List ℕ) (at from to : ℕ) : Type 0 where
@@ -157,10 +173,13 @@ pub content_belongs : (message : List ℕ) (kind class at : ℕ) (rdata : ℕ ×
     → OrMemory (Told of_rdata (ContentIn (form_of kind class) message rdata.1 rdata.0)) (Ok what)
     → IsTrue (belongs kind class what)
 content_belongs message kind class at rdata what h k =
-    belongs_of kind class (form_of kind class) message rdata.1 rdata.0 what (form_fits kind class) (length_span message at rdata h).few (told_value of_rdata (ContentIn (form_of kind class) message rdata.1 rdata.0) what k)
+    belongs_of kind class (form_of kind class) message rdata.1 rdata.0 what (form_fits kind class)
+    (length_span message at rdata h).few
+    (told_value of_rdata (ContentIn (form_of kind class) message rdata.1 rdata.0) what k)
 
 -- a record whose content is read, or not
-pub record_goes : (message : List ℕ) (at : ℕ) (owner : List (List ℕ) × ℕ) (kind class ttl rdata : ℕ × ℕ) (what : Content) (fits : IsTrue (belongs kind.0 class.0 what))
+pub record_goes : (message : List ℕ) (at : ℕ) (owner : List (List ℕ) × ℕ) (kind class ttl rdata : ℕ × ℕ)
+    (what : Content) (fits : IsTrue (belongs kind.0 class.0 what))
     → NameRead message at (Ok owner) → U16At message owner.1 (Ok kind) → U16At message kind.1 (Ok class)
     → U32At message class.1 (Ok ttl) → LengthAt message ttl.1 (Ok rdata)
     → OrMemory (Told of_rdata (ContentIn (form_of kind.0 class.0) message rdata.1 rdata.0)) (Ok what)
@@ -169,7 +188,8 @@ record_goes message at owner kind class ttl rdata what fits h1 h2 h3 h4 h5 (inl 
     inl (goes owner h1 (goes kind h2 (goes class h3 (goes ttl h4 (goes rdata h5 (goes what h6 (fits, refl)))))))
 record_goes message at owner kind class ttl rdata what fits h1 h2 h3 h4 h5 (inr none) = absurd cc
 
-pub record_stops : (message : List ℕ) (at : ℕ) (owner : List (List ℕ) × ℕ) (kind class ttl rdata : ℕ × ℕ) (fault : DecodeFault) (result : Result (Record × ℕ) DecodeFault)
+pub record_stops : (message : List ℕ) (at : ℕ) (owner : List (List ℕ) × ℕ) (kind class ttl rdata : ℕ × ℕ)
+    (fault : DecodeFault) (result : Result (Record × ℕ) DecodeFault)
     → NameRead message at (Ok owner) → U16At message owner.1 (Ok kind) → U16At message kind.1 (Ok class)
     → U32At message class.1 (Ok ttl) → LengthAt message ttl.1 (Ok rdata)
     → OrMemory (Told of_rdata (ContentIn (form_of kind.0 class.0) message rdata.1 rdata.0)) (Err fault)

@@ -1,5 +1,6 @@
 -- Bytes that stand at a place of a message, in parts, and names among them.
-use Rattle.std.proofs.Common.{◌≡◌, ℕ, ◌+◌, List, [], ◌∷◌, ◌++◌, length, take, drop, None, unwrap_or, refl, sym, ◌∙◌, ap, subst, arith, append_assoc, length-append}
+use Rattle.std.proofs.Common.{◌≡◌, ℕ, ◌+◌, List, [], ◌∷◌, ◌++◌, length, take, drop, None, unwrap_or, refl, sym, ◌∙◌, ap}
+use Rattle.std.proofs.Common.{subst, arith, append_assoc, length-append}
 use Rattle.std.proofs.lemmas.List.{take_at, drop_at, take-take, take_all, drop-take, drop-drop}
 use Rattle.std.specs.List.{AllByRecursion, flat_map}
 use Rattle.dns_name.specs.Name.{IsLabel, IsName, label_wire, wire_of}
@@ -17,7 +18,9 @@ stands-append message at front back size is h =
     let parts : take (length front + length back) there ≡ front ++ back = ap (λ n. take n there) (sym (length-append front back)) ∙ h in
     let P : ℕ → Type 0 = λ n. StandsAt message (at + n) back in (
       sym (take-take (length front) (length front + length back) there (omega arith)) ∙ ap (take (length front)) parts ∙ take_at front back (length front) refl,
-      subst P is (ap (take (length back)) (sym (drop-drop (length front) at message)) ∙ sym (drop-take (length front) (length back) there) ∙ ap (drop (length front)) parts ∙ drop_at front back (length front) refl),
+      subst P is (ap (take (length back)) (sym (drop-drop (length front) at message))
+          ∙ sym (drop-take (length front) (length back) there) ∙ ap (drop (length front)) parts
+          ∙ drop_at front back (length front) refl),
     )
 
 -- labels as fields
@@ -47,7 +50,8 @@ leads-labels message start at root [] each is h =
 leads-labels message start at root (label ∷ labels) each is h =
     let more = flat_map label_wire labels in
     let P : List ℕ → Type 0 = StandsAt message at in
-    let parts = stands-append message at (label_wire label) (wire_of labels) (length label + 1) (omega arith) (subst P (append_assoc (label_wire label) more (0 ∷ [])) h) in
+    let parts = stands-append message at (label_wire label) (wire_of labels) (length label + 1) (omega arith)
+    (subst P (append_assoc (label_wire label) more (0 ∷ [])) h) in
     let size : root ≡ at + (length label + 1) + length more = omega (arith, length-append (label_wire label) more) in
     let rest = leads-labels message start (at + (length label + 1)) root labels each.1 size parts.1 in
     (((parts.0, each.0), rest.0), rest.1)

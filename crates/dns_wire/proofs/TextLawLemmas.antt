@@ -1,5 +1,6 @@
 -- The character-strings of RDATA come to one thing, and in a list of bytes to something.
-use Rattle.std.proofs.Common.{◌≡◌, ◌⊎◌, ℕ, zero, suc, ◌+◌, ◌-◌, ◌<◌, ◌≤◌, List, [], ◌∷◌, length, drop, Result, Ok, Err, refl, sym, ◌∙◌, ap, subst, inl, inr, arith}
+use Rattle.std.proofs.Common.{◌≡◌, ◌⊎◌, ℕ, zero, suc, ◌+◌, ◌-◌, ◌<◌, ◌≤◌, List, [], ◌∷◌, length, drop, Result, Ok, Err}
+use Rattle.std.proofs.Common.{refl, sym, ◌∙◌, ap, subst, inl, inr, arith}
 use Rattle.std.specs.List.{AllByRecursion}
 use Rattle.enum_base.proofs.StageLemmas.{IsSingle, IsTotal}
 use Rattle.dns_name.specs.Name.{IsByte}
@@ -36,7 +37,8 @@ same_texts message at to [] (text ∷ two) h (short, there, rest) = let low = st
 same_texts message at to (text ∷ one) [] (short, there, rest) k = let low = stand_low message (at + (length text + 1)) one to rest in absurd (omega arith)
 same_texts message at to (text ∷ one) (other ∷ two) (short, there, rest) (short', there', rest') =
     let same : text ≡ other = same_text message at text other there there' in
-    let tail = same_texts message (at + (length text + 1)) to one two rest (subst (λ (x : List ℕ). TextsStand message (at + (length x + 1)) two to) (sym same) rest') in
+    let tail = same_texts message (at + (length text + 1)) to one two rest
+    (subst (λ (x : List ℕ). TextsStand message (at + (length x + 1)) two to) (sym same) rest') in
     ap (λ x. x ∷ one) same ∙ ap (λ xs. other ∷ xs) tail
 
 -- where they reach the end, none is cut before
@@ -48,7 +50,8 @@ whole_not_cut message at to (text ∷ one) [] place (short, there, rest) k early
     not_cut message to at text there low (subst (λ n. TextIsCut message to n) (sym k) cut)
 whole_not_cut message at to (text ∷ one) (other ∷ two) place (short, there, rest) (short', there', rest') early cut =
     let same : text ≡ other = same_text message at text other there there' in
-    whole_not_cut message (at + (length text + 1)) to one two place rest (subst (λ (x : List ℕ). TextsStand message (at + (length x + 1)) two place) (sym same) rest') early cut
+    whole_not_cut message (at + (length text + 1)) to one two place rest
+    (subst (λ (x : List ℕ). TextsStand message (at + (length x + 1)) two place) (sym same) rest') early cut
 
 -- they are cut at one place
 same_cut : (message : List ℕ) (at to : ℕ) (one two : List (List ℕ)) (a b : ℕ) → TextsStand message at one a
@@ -67,7 +70,9 @@ same_cut message at to (text ∷ one) (other ∷ two) a b h k (inr none) early' 
 same_cut message at to (text ∷ one) (other ∷ two) a b h k (inl low) (inr none) cut cut' = absurd cc
 same_cut message at to (text ∷ one) (other ∷ two) a b (short, there, rest) (short', there', rest') (inl low) (inl low') cut cut' =
     let same : text ≡ other = same_text message at text other there there' in
-    same_cut message (at + (length text + 1)) to one two a b rest (subst (λ (x : List ℕ). TextsStand message (at + (length x + 1)) two b) (sym same) rest') (inl low) (inl low') cut cut'
+    same_cut message (at + (length text + 1)) to one two a b rest
+    (subst (λ (x : List ℕ). TextsStand message (at + (length x + 1)) two b) (sym same) rest') (inl low)
+    (inl low') cut cut'
 
 some_low : (message : List ℕ) (at : ℕ) (texts : List (List ℕ)) (next : ℕ) → TextsStand message at texts next → 0 < length texts → at < next
 some_low message at [] next is some = absurd (omega arith)
@@ -85,8 +90,12 @@ IsSingle-texts message from to = record { same = same }
   where
     same : (r s : Result (List (List ℕ)) InFault) → TextsIn message from to r → TextsIn message from to s → r ≡ s
     same r s (inl (one, h, some, is)) (inl (two, k, some', is')) = is ∙ ap (λ (x : List (List ℕ)). Ok x) (same_texts message from to one two h k) ∙ sym is'
-    same r s (inl (one, h, some, is)) (inr (two, place, k, early, cut, is')) = absurd (whole_not_cut message from to one two place h k (early_place message from to one two place h some k early) cut)
-    same r s (inr (two, place, k, early, cut, is')) (inl (one, h, some, is)) = absurd (whole_not_cut message from to one two place h k (early_place message from to one two place h some k early) cut)
+    same r s (inl (one, h, some, is)) (inr (two, place, k, early, cut, is')) =
+        absurd (whole_not_cut message from to one two place h k
+        (early_place message from to one two place h some k early) cut)
+    same r s (inr (two, place, k, early, cut, is')) (inl (one, h, some, is)) =
+        absurd (whole_not_cut message from to one two place h k
+        (early_place message from to one two place h some k early) cut)
     same r s (inr (one, a, h, early, cut, is)) (inr (two, b, k, early', cut', is')) =
         is ∙ ap (λ n. Err (Shape n)) (same_cut message from to one two a b h k early early' cut cut') ∙ sym is'
 

@@ -25,7 +25,8 @@ TextsStand message at (text ∷ texts) next =
 abbrev pub TextsIn : List ℕ → ℕ → ℕ → Result (List (List ℕ)) InFault → Type 0
 TextsIn message from to result =
     ((texts : List (List ℕ)) × TextsStand message from texts to × (0 < length texts) × (result ≡ Ok texts))
-    ⊎ ((texts : List (List ℕ)) × (place : ℕ) × TextsStand message from texts place × ((place < to) ⊎ (texts ≡ [])) × TextIsCut message to place × (result ≡ Err (Shape place)))
+    ⊎ ((texts : List (List ℕ)) × (place : ℕ) × TextsStand message from texts place × ((place < to) ⊎ (texts ≡ []))
+    × TextIsCut message to place × (result ≡ Err (Shape place)))
 
 -- the fields of an SOA record: two names and five numbers (RFC 1035, 3.3.13)
 abbrev pub SoaIn : List ℕ → ℕ → ℕ → Result (Soa × ℕ) InFault → Type 0

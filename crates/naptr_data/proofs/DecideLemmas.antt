@@ -154,4 +154,5 @@ enclosed zone (label ∷ front) back here inside not = next (λ none. enclosed z
 
 pub has_encloser : (zone : Zone) (name : Labels) → IsBelow name zone.apex → ¬ Exists zone name → (encloser : Labels) × Encloses zone name encloser
 has_encloser zone name (front, back, parts, same) not =
-    subst (λ n. (encloser : Labels) × Encloses zone n encloser) (sym parts) (enclosed zone front back (inl same) ([], back, refl, same) (subst (λ n. ¬ Exists zone n) parts not))
+    subst (λ n. (encloser : Labels) × Encloses zone n encloser) (sym parts)
+    (enclosed zone front back (inl same) ([], back, refl, same) (subst (λ n. ¬ Exists zone n) parts not))

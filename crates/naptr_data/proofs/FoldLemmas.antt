@@ -4,7 +4,8 @@ use Rattle.std.proofs.lemmas.List.{map-append}
 use Rattle.std.proofs.lemmas.Bool.Decides.{nat_tests}
 use Rattle.enum_base.specs.Folding.{folded, folded_byte}
 use Rattle.dns_name.specs.Name.{AreSame, folded_labels}
-use Rattle.naptr_data.specs.Zones.{Labels, Item, Owned, Zone, Decides, NoneServes, IsDelegated, Exists, Encloses, star, IsSource, HasItem, IsFirstAlias, AreRules, IsServed, IsOffer}
+use Rattle.naptr_data.specs.Zones.{Labels, Item, Owned, Zone, Decides, NoneServes, IsDelegated, Exists, Encloses, star}
+use Rattle.naptr_data.specs.Zones.{IsSource, HasItem, IsFirstAlias, AreRules, IsServed, IsOffer}
 use Rattle.naptr_data.specs.Zones.Item.{alias, rule}
 use Rattle.naptr_rule.specs.declared.rule.Naptr.{Naptr}
 use Rattle.naptr_data.specs.declared.offer.Offer.{Offer}
@@ -57,7 +58,8 @@ end_parts name front (label' ∷ encloser') label encloser parts e = (front, lab
 
 end_same : (one other front : Labels) (label : List ℕ) (encloser : Labels) → AreSame one other → one ≡ front ++ label ∷ encloser → HasEnd other label encloser
 end_same one other front label encloser same parts =
-    let p = map_parts folded other (folded_labels front) (folded_labels (label ∷ encloser)) (sym same ∙ ap folded_labels parts ∙ map-append folded front (label ∷ encloser)) in
+    let p = map_parts folded other (folded_labels front) (folded_labels (label ∷ encloser))
+    (sym same ∙ ap folded_labels parts ∙ map-append folded front (label ∷ encloser)) in
     end_parts other p.0 p.1 label encloser p.2 p.4
 
 -- the same name has the same source
@@ -78,8 +80,11 @@ source_same zone one other source same (inr (not, (encloser, e, is))) = found (e
           inside = below_same_name encloser encloser' zone.apex ends e.inside;
           exists = exists_same zone encloser encloser' ends e.exists;
           closest = λ x. e.closest (exists_same zone (label' ∷ encloser') (e.label ∷ encloser) (sym whole) x);
-        } in
-        (star ∷ encloser', inr (λ x. not (exists_same zone other one (sym same) x), (encloser', closest, refl)), ap folded_labels is ∙ ap (λ l. folded star ∷ l) ends)
+        } in (
+          star ∷ encloser',
+          inr (λ x. not (exists_same zone other one (sym same) x), (encloser', closest, refl)),
+          ap folded_labels is ∙ ap (λ l. folded star ∷ l) ends,
+        )
 
 stands_same : (items : List Owned) (one other : Labels) (item : Item) → AreSame one other → HasItem items one item → HasItem items other item
 stands_same items one other item same (owner, c, here) = (owner, c, here ∙ same)

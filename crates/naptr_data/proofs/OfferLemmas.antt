@@ -2,7 +2,8 @@
 use Rattle.std.proofs.Common.{◌≡◌, ◌⊎◌, inl, inr, List, [], ◌∷◌, ◌++◌, refl, sym, ap, subst, ◌∙◌, arith, length-append}
 use Rattle.std.specs.Prelude.{Contains}
 use Rattle.dns_name.specs.Name.{IsBelow}
-use Rattle.naptr_data.specs.Zones.{Labels, Item, Owned, Zone, Decides, NoneServes, IsDelegated, Exists, Encloses, star, IsSource, HasItem, IsFirstAlias, AreRules, IsServed, IsOffer}
+use Rattle.naptr_data.specs.Zones.{Labels, Item, Owned, Zone, Decides, NoneServes, IsDelegated, Exists, Encloses, star}
+use Rattle.naptr_data.specs.Zones.{IsSource, HasItem, IsFirstAlias, AreRules, IsServed, IsOffer}
 use Rattle.naptr_data.specs.Zones.Item.{alias}
 use Rattle.naptr_rule.specs.declared.rule.Naptr.{Naptr}
 use Rattle.naptr_data.specs.declared.offer.Offer.{Offer}
@@ -66,12 +67,18 @@ earlier_alias : (items : List Owned) (name one other : Labels) (a : IsFirstAlias
     → IsEarlier a.before (record { owner = a.owner; item = alias one }) a.after b.before (record { owner = b.owner; item = alias other }) b.after
     → ⊥
 earlier_alias items name one other a b e =
-    b.first one (a.owner, subst (λ os. Contains os (record { owner = a.owner; item = alias one })) (sym e.front) (Contains-middle a.before (record { owner = a.owner; item = alias one }) e.middle), a.here)
+    b.first one (
+      a.owner,
+      subst (λ os. Contains os (record { owner = a.owner; item = alias one })) (sym e.front)
+          (Contains-middle a.before (record { owner = a.owner; item = alias one }) e.middle),
+      a.here,
+    )
 
 -- a name has one first CNAME
 pub one_alias : (items : List Owned) (name one other : Labels) → IsFirstAlias items name one → IsFirstAlias items name other → one ≡ other
 one_alias items name one other a b =
-    elim (two_cuts a.before (record { owner = a.owner; item = alias one }) a.after b.before (record { owner = b.owner; item = alias other }) b.after (sym a.parts ∙ b.parts)) [
+    elim (two_cuts a.before (record { owner = a.owner; item = alias one }) a.after b.before
+    (record { owner = b.owner; item = alias other }) b.after (sym a.parts ∙ b.parts)) [
       | inl same ↦ let e : alias one ≡ alias other = ap (λ (o : Owned). o.item) same.1 in cc
       | inr (inl e) ↦ absurd (earlier_alias items name one other a b e)
       | inr (inr e) ↦ absurd (earlier_alias items name other one b a e)
@@ -79,8 +86,12 @@ one_alias items name one other a b =
 
 -- a first CNAME stands there
 pub alias_stands : (items : List Owned) (name target : Labels) → IsFirstAlias items name target → HasItem items name (alias target)
-alias_stands items name target a =
-    (a.owner, subst (λ os. Contains os (record { owner = a.owner; item = alias target })) (sym a.parts) (Contains-middle a.before (record { owner = a.owner; item = alias target }) a.after), a.here)
+alias_stands items name target a = (
+  a.owner,
+  subst (λ os. Contains os (record { owner = a.owner; item = alias target })) (sym a.parts)
+      (Contains-middle a.before (record { owner = a.owner; item = alias target }) a.after),
+  a.here,
+)
 
 pub one_rules : (items : List Owned) (name : Labels) (one other : List Naptr) → AreRules items name one → AreRules items name other → one ≡ other
 one_rules items name one other a b =
@@ -104,7 +115,9 @@ alias_and_rules : (zones : List Zone) (name target : Labels) (rules : List Naptr
     → IsOffer zones name (offer.Alias target) → IsOffer zones name (offer.Rules rules) → ⊥
 alias_and_rules zones name target rules (zone, source, served, first) (zone', source', served', are) =
     let same = one_served zones name zone zone' source source' served served' in
-    are.none target (subst (λ s. HasItem zone'.items s (alias target)) same.1 (subst (λ (z : Zone). HasItem z.items source (alias target)) same.0 (alias_stands zone.items source target first)))
+    are.none target (subst (λ s. HasItem zone'.items s (alias target)) same.1
+    (subst (λ (z : Zone). HasItem z.items source (alias target)) same.0
+    (alias_stands zone.items source target first)))
 
 pub one_offer : (zones : List Zone) (name : Labels) (one other : Offer) → IsOffer zones name one → IsOffer zones name other → one ≡ other
 one_offer zones name offer.Unserved offer.Unserved a b = refl
@@ -116,7 +129,11 @@ one_offer zones name (offer.Alias target) (offer.Rules rules) a b = absurd (alia
 one_offer zones name (offer.Rules rules) (offer.Alias target) a b = absurd (alias_and_rules zones name target rules b a)
 one_offer zones name (offer.Alias target) (offer.Alias target') (zone, source, served, first) (zone', source', served', first') =
     let same = one_served zones name zone zone' source source' served served' in
-    ap offer.Alias (one_alias zone'.items source' target target' (subst (λ s. IsFirstAlias zone'.items s target) same.1 (subst (λ (z : Zone). IsFirstAlias z.items source target) same.0 first)) first')
+    ap offer.Alias (one_alias zone'.items source' target target'
+    (subst (λ s. IsFirstAlias zone'.items s target) same.1
+    (subst (λ (z : Zone). IsFirstAlias z.items source target) same.0 first)) first')
 one_offer zones name (offer.Rules rules) (offer.Rules rules') (zone, source, served, are) (zone', source', served', are') =
     let same = one_served zones name zone zone' source source' served served' in
-    ap offer.Rules (one_rules zone'.items source' rules rules' (subst (λ s. AreRules zone'.items s rules) same.1 (subst (λ (z : Zone). AreRules z.items source rules) same.0 are)) are')
+    ap offer.Rules (one_rules zone'.items source' rules rules'
+    (subst (λ s. AreRules zone'.items s rules) same.1
+    (subst (λ (z : Zone). AreRules z.items source rules) same.0 are)) are')

@@ -30,8 +30,12 @@ rising_same [] [] r s to back = refl
 rising_same [] (f ∷ other) r s to back = absurd (Contains-none f (back f (Contains-head f other)))
 rising_same (e ∷ one) [] r s to back = absurd (Contains-none e (to e (Contains-head e one)))
 rising_same (e ∷ one) (f ∷ other) r s to back =
-    let heads : e ≡ f = same_heads e f one other r.0 s.0 (head_or_after f other e (to e (Contains-head e one))) (head_or_after e one f (back f (Contains-head f other))) in
-    let rests : one ≡ other = rising_same one other r.1 s.1 (λ x c. after e f one other r.0 heads x c (head_or_after f other x (to x (Contains-after e one x c)))) (λ x c. after f e other one s.0 (sym heads) x c (head_or_after e one x (back x (Contains-after f other x c)))) in
+    let heads : e ≡ f = same_heads e f one other r.0 s.0 (head_or_after f other e (to e (Contains-head e one)))
+    (head_or_after e one f (back f (Contains-head f other))) in
+    let rests : one ≡ other = rising_same one other r.1 s.1
+    (λ x c. after e f one other r.0 heads x c (head_or_after f other x (to x (Contains-after e one x c))))
+    (λ x c. after f e other one s.0 (sym heads) x c
+    (head_or_after e one x (back x (Contains-after f other x c)))) in
     cc
   where
     same_heads : (e f : Naptr) (one other : List Naptr) → AllByRecursion (λ o. rank_of e o ≡ Less) one

@@ -8,7 +8,8 @@ use Rattle.std.proofs.lemmas.List.Elements.{Contains-append_cases}
 use Rattle.dns_name.specs.Name.{AreSame, IsBelow}
 use Rattle.naptr_data.specs.Laws.{RulesAreApart, HoldRules}
 use Rattle.naptr_rule.specs.Rank.{rank_of}
-use Rattle.naptr_data.specs.Zones.{Labels, Item, Owned, Zone, Decides, NoneServes, IsDelegated, Exists, star, IsSource, HasItem, IsFirstAlias, IsRising, IsOffer}
+use Rattle.naptr_data.specs.Zones.{Labels, Item, Owned, Zone, Decides, NoneServes, IsDelegated, Exists, star, IsSource}
+use Rattle.naptr_data.specs.Zones.{HasItem, IsFirstAlias, IsRising, IsOffer}
 use Rattle.naptr_data.specs.Zones.Item.{rule, alias, delegation, other}
 use Rattle.naptr_rule.specs.declared.rule.Naptr.{Naptr}
 use Rattle.naptr_data.specs.declared.offer.Offer.{Offer}

@@ -1,5 +1,7 @@
 -- Names without pointers are the names that are read in the bytes from their place on.
-use Rattle.std.proofs.Common.{◌≡◌, ◌⊎◌, ℕ, zero, suc, ◌+◌, ◌-◌, ◌<◌, ◌≤◌, List, [], ◌∷◌, ◌++◌, length, drop, get_or, None, unwrap_or, Result, Ok, Err, refl, sym, ◌∙◌, ap, subst, inl, inr, arith, length-append, length-drop}
+use Rattle.std.proofs.Common.{◌≡◌, ◌⊎◌, ℕ, zero, suc, ◌+◌, ◌-◌, ◌<◌, ◌≤◌, List, [], ◌∷◌, ◌++◌, length, drop, get_or}
+use Rattle.std.proofs.Common.{None, unwrap_or, Result, Ok, Err, refl, sym, ◌∙◌, ap, subst, inl, inr, arith}
+use Rattle.std.proofs.Common.{length-append, length-drop}
 use Rattle.std.proofs.lemmas.Bool.Decides.{nat_tests}
 use Rattle.std.proofs.lemmas.List.{get_or_past}
 use Rattle.std.specs.List.{AllByRecursion, flat_map}
@@ -40,7 +42,8 @@ led m a (by_label l ∷ fs) t h f =
       none = rest.none;
       labels = record {
         each = (f.0.1, rest.labels.each);
-        there = stands_join m a (label_wire l) (flat_map label_wire (labels_in fs)) f.0.0 (subst (λ n. StandsAt m n (flat_map label_wire (labels_in fs))) e rest.labels.there);
+        there = stands_join m a (label_wire l) (flat_map label_wire (labels_in fs)) f.0.0
+            (subst (λ n. StandsAt m n (flat_map label_wire (labels_in fs))) e rest.labels.there);
         place = omega arith;
       };
     }
@@ -155,7 +158,9 @@ bare_err bytes from (wire.Short at) (labels, start, far, cut) =
   where
     by_cut : IsCut (drop from bytes) at
         → (LabelIsCut bytes (from + at) × ◌≡◌ {A = Result (List (List ℕ) × ℕ) RdataFault} (Err (cut_fault bytes (from + at))) (Err (Short (from + at))))
-        ⊎ (LabelIsBad bytes labels (from + at) × ◌≡◌ {A = Result (List (List ℕ) × ℕ) RdataFault} (Err (cut_fault bytes (from + at))) (Err (BadName (from + at))))
+        ⊎ (LabelIsBad bytes labels (from + at)
+        × ◌≡◌ {A = Result (List (List ℕ) × ℕ) RdataFault} (Err (cut_fault bytes (from + at)))
+        (Err (BadName (from + at))))
     by_cut (inl none) =
         let size = length-drop from bytes in
         let end : length bytes ≤ from + at = omega arith in
@@ -170,12 +175,27 @@ bare_err bytes from (wire.Short at) (labels, start, far, cut) =
         let s = stands bytes (from + at) high [] whole in
         inr (inl (high, whole, omega arith), ap Err (cut_bad bytes (from + at) high s.is (omega arith)))
 bare_err bytes from (wire.BadLabelType at) (labels, start, far, (byte, stand, some, most)) =
-    inr (labels, from + at, stand_from bytes from labels at (led_reach (drop from bytes) labels start at far), inr (inl (byte, from_rest bytes from at (byte ∷ []) stand, some), refl))
+    inr (
+      labels,
+      from + at,
+      stand_from bytes from labels at (led_reach (drop from bytes) labels start at far),
+      inr (inl (byte, from_rest bytes from at (byte ∷ []) stand, some), refl),
+    )
 bare_err bytes from (wire.ForwardPointer at) (labels, start, far, (offset, (high, low, stand, some, is), forward)) =
     let parts = stands_split (drop from bytes) at (high ∷ []) (low ∷ []) (omega arith) stand in
-    inr (labels, from + at, stand_from bytes from labels at (led_reach (drop from bytes) labels start at far), inr (inl (high, from_rest bytes from at (high ∷ []) parts.0, omega arith), refl))
+    inr (
+      labels,
+      from + at,
+      stand_from bytes from labels at (led_reach (drop from bytes) labels start at far),
+      inr (inl (high, from_rest bytes from at (high ∷ []) parts.0, omega arith), refl),
+    )
 bare_err bytes from (wire.NameTooLong at) (labels, start, far, (label, (stand, is), long)) =
-    inr (labels, from + at, stand_from bytes from labels at (led_reach (drop from bytes) labels start at far), inr (inr (label, (from_rest bytes from at (label_wire label) stand, is), long), refl))
+    inr (
+      labels,
+      from + at,
+      stand_from bytes from labels at (led_reach (drop from bytes) labels start at far),
+      inr (inr (label, (from_rest bytes from at (label_wire label) stand, is), long), refl),
+    )
 
 -- the place of what breaks a name lies in the bytes, or is their end
 reach_inside : (m : List ℕ) (labels : List (List ℕ)) (start at : ℕ) → Reaches m 0 labels start at → at ≤ length m
@@ -235,12 +255,27 @@ read_fault : (bytes : List ℕ) (from : ℕ) (labels : List (List ℕ)) (at : �
     → Reaches (drop from bytes) 0 labels 0 at → Why bytes labels r (from + at) → IsRead bytes from r
 read_fault bytes from labels at r far (inl (inl end, e)) =
     let size = length-drop from bytes in
-    inr (wire.Short at, (labels, 0, far, inl (omega arith)), e ∙ ap Err (sym (cut_short bytes (from + at) 0 (get_or_past bytes (from + at) 0 end) (omega arith))))
+    inr (
+      wire.Short at,
+      (labels, 0, far, inl (omega arith)),
+      e
+          ∙ ap Err (sym (cut_short bytes (from + at) 0 (get_or_past bytes (from + at) 0 end) (omega arith))),
+    )
 read_fault bytes from labels at r far (inl (inr (size, byte, most, short), e)) =
     let s = stands bytes (from + at) size [] byte in
     let inside = s.inside in
     let rest = length-drop from bytes in
-    inr (wire.Short at, (labels, 0, far, inr (inl (size, to_rest bytes from at (size ∷ []) byte, omega arith, most, omega arith))), e ∙ ap Err (sym (cut_short bytes (from + at) size s.is most)))
+    inr (
+      wire.Short at,
+      (
+        labels,
+        0,
+        far,
+        inr (inl (size, to_rest bytes from at (size ∷ []) byte, omega arith, most, omega arith)),
+      ),
+      e
+          ∙ ap Err (sym (cut_short bytes (from + at) size s.is most)),
+    )
 read_fault bytes from labels at r far (inr (inl (byte, stand, some), e)) = by_byte (by_size 192 byte)
   where
     rest : List ℕ
@@ -271,7 +306,9 @@ is_read bytes from r (inl (labels, is, stand, e)) =
     inl (labels, length (wire_of labels), subst (λ n. NameAt (drop from bytes) 0 labels n) size name, e)
 is_read bytes from r (inr (labels, place, stood, why)) =
     let e : place ≡ from + (place - from) = let is = stood.2 in omega arith in
-    read_fault bytes from labels (place - from) r (reached (drop from bytes) labels (place - from) (stand_rest bytes from labels place stood)) (subst (Why bytes labels r) e why)
+    read_fault bytes from labels (place - from) r
+    (reached (drop from bytes) labels (place - from) (stand_rest bytes from labels place stood))
+    (subst (Why bytes labels r) e why)
 
 pub IsSingle-bare_name : (bytes : List ℕ) (from : ℕ) → IsSingle (BareName bytes from)
 IsSingle-bare_name bytes from = record { same = λ r s h k. same r s (is_read bytes from r h) (is_read bytes from s k) }

@@ -1,5 +1,6 @@
 -- RDATA by itself: what is read of it is its rule.
-use Rattle.std.proofs.Common.{◌≡◌, ◌⊎◌, ℕ, ◌+◌, ◌<◌, ◌≤◌, ◌^◌, List, [], ◌++◌, length, drop, Result, Ok, Err, ◌↔◌, refl, sym, ◌∙◌, ap, subst, inl, inr, arith, length-append}
+use Rattle.std.proofs.Common.{◌≡◌, ◌⊎◌, ℕ, ◌+◌, ◌<◌, ◌≤◌, ◌^◌, List, [], ◌++◌, length, drop, Result, Ok, Err, ◌↔◌, refl}
+use Rattle.std.proofs.Common.{sym, ◌∙◌, ap, subst, inl, inr, arith, length-append}
 use Rattle.std.proofs.lemmas.List.{append-nil}
 use Rattle.std.proofs.Math.Seq.{drop-length}
 use Rattle.std.specs.Int.{w16, to_be_bytes}
@@ -33,11 +34,23 @@ is_err (Ok x) fault is = absurd is
 is_err (Err f) fault is = ap Err is
 
 -- the five fields before the name, and the root for the name
-pub front_ok : {F : Type 0} (cut : ℕ → F) (message : List ℕ) (to from order p preference q : ℕ) (flags : List ℕ) (r : ℕ) (services : List ℕ) (s : ℕ) (regexp : List ℕ) (t : ℕ) (root : List (List ℕ))
+pub front_ok : {F : Type 0} (cut : ℕ → F) (message : List ℕ) (to from order p preference q : ℕ) (flags : List ℕ)
+    (r : ℕ) (services : List ℕ) (s : ℕ) (regexp : List ℕ) (t : ℕ) (root : List (List ℕ))
     → U16By cut message to from (Ok (order, p)) → U16By cut message to p (Ok (preference, q))
     → TextBy cut message to q (Ok (flags, r)) → TextBy cut message to r (Ok (services, s))
     → TextBy cut message to s (Ok (regexp, t)) → root ≡ []
-    → FrontBy cut message to from (Ok (record { order = order; preference = preference; flags = flags; services = services; regexp = regexp; replacement = root }, t))
+    → FrontBy cut message to from
+    (Ok (
+      record {
+        order = order;
+        preference = preference;
+        flags = flags;
+        services = services;
+        regexp = regexp;
+        replacement = root;
+      },
+      t,
+    ))
 front_ok {F} cut message to from order p preference q flags r services s regexp t root a b c d e is =
     goes (order, p) a (goes (preference, q) b (goes (flags, r) c (goes (services, s) d (goes (regexp, t) e (ap made is)))))
   where
@@ -50,7 +63,8 @@ abbrev pub turned : {A F G : Type 0} → (F → G) → Result A F → Result A G
 turned turn (Ok value) = Ok value
 turned turn (Err fault) = Err (turn fault)
 
-Then-turned : {A B F G : Type 0} (turn : F → G) (One : Result A F → Type 0) (One' : Result A G → Type 0) (Next : A → Result B F → Type 0) (Next' : A → Result B G → Type 0)
+Then-turned : {A B F G : Type 0} (turn : F → G) (One : Result A F → Type 0) (One' : Result A G → Type 0)
+    (Next : A → Result B F → Type 0) (Next' : A → Result B G → Type 0)
     → ((r : Result A F) → One r → One' (turned turn r))
     → ((value : A) (r : Result B F) → Next value r → Next' value (turned turn r)) → (r : Result B F) → Then One Next r
     → Then One' Next' (turned turn r)
@@ -80,7 +94,8 @@ number_part : {F : Type 0} (cut : ℕ → F) (bytes : List ℕ) (to at : ℕ) (r
     → (read.0 < 2 ^ 16) × (drop at bytes ≡ to_be_bytes w16 read.0 ++ drop read.1 bytes)
 number_part cut bytes to at read (inl (value, small, there, is)) =
     let both : ◌≡◌ {A = ℕ × ℕ} read (value, at + 2) = cc in
-    subst (λ (x : ℕ × ℕ). (x.0 < 2 ^ 16) × (drop at bytes ≡ to_be_bytes w16 x.0 ++ drop x.1 bytes)) (sym both) (small, drop_from bytes at (to_be_bytes w16 value) (drop (at + 2) bytes) there.0 refl)
+    subst (λ (x : ℕ × ℕ). (x.0 < 2 ^ 16) × (drop at bytes ≡ to_be_bytes w16 x.0 ++ drop x.1 bytes)) (sym both)
+    (small, drop_from bytes at (to_be_bytes w16 value) (drop (at + 2) bytes) there.0 refl)
 number_part cut bytes to at read (inr (short, is)) = absurd (cc)
 
 text_part : {F : Type 0} (cut : ℕ → F) (bytes : List ℕ) (to at : ℕ) (read : List ℕ × ℕ)
@@ -89,14 +104,19 @@ text_part : {F : Type 0} (cut : ℕ → F) (bytes : List ℕ) (to at : ℕ) (rea
 text_part cut bytes to at read (inl (text, short, there, is)) =
     let both : ◌≡◌ {A = List ℕ × ℕ} read (text, at + (length text + 1)) = cc in
     let place : at + length (string_wire text) ≡ at + (length text + 1) = omega arith in
-    subst (λ (x : List ℕ × ℕ). (length x.0 ≤ 255) × (drop at bytes ≡ string_wire x.0 ++ drop x.1 bytes)) (sym both) (short, drop_from bytes at (string_wire text) (drop (at + (length text + 1)) bytes) there.0 (ap (λ n. drop n bytes) place))
+    subst (λ (x : List ℕ × ℕ). (length x.0 ≤ 255) × (drop at bytes ≡ string_wire x.0 ++ drop x.1 bytes)) (sym both) (
+      short,
+      drop_from bytes at (string_wire text) (drop (at + (length text + 1)) bytes) there.0
+          (ap (λ n. drop n bytes) place),
+    )
 text_part cut bytes to at read (inr (short, is)) = absurd (cc)
 
 name_part : (bytes : List ℕ) (at : ℕ) (read : List (List ℕ) × ℕ) → BareName bytes at (Ok read)
     → IsName read.0 × (drop at bytes ≡ wire_of read.0 ++ drop read.1 bytes)
 name_part bytes at read (inl (labels, name, there, is)) =
     let both : ◌≡◌ {A = List (List ℕ) × ℕ} read (labels, at + length (wire_of labels)) = cc in
-    subst (λ (x : List (List ℕ) × ℕ). IsName x.0 × (drop at bytes ≡ wire_of x.0 ++ drop x.1 bytes)) (sym both) (name, drop_from bytes at (wire_of labels) (drop (at + length (wire_of labels)) bytes) there refl)
+    subst (λ (x : List (List ℕ) × ℕ). IsName x.0 × (drop at bytes ≡ wire_of x.0 ++ drop x.1 bytes)) (sym both)
+    (name, drop_from bytes at (wire_of labels) (drop (at + length (wire_of labels)) bytes) there refl)
 name_part bytes at read (inr (labels, place, stood, inl (cut, is))) = absurd (cc)
 name_part bytes at read (inr (labels, place, stood, inr (bad, is))) = absurd (cc)
 
@@ -117,7 +137,17 @@ record IsFront (bytes : List ℕ) (from : ℕ) (rule : Naptr) (next : ℕ) : Typ
 front_parts : {F : Type 0} (cut : ℕ → F) (bytes : List ℕ) (to from : ℕ) (read : Naptr × ℕ)
     → FrontBy cut bytes to from (Ok read) → IsFront bytes from read.0 read.1
 front_parts cut bytes to from read (goes order o (goes preference p (goes flags f (goes services s (goes regexp r is))))) =
-    let both : ◌≡◌ {A = Naptr × ℕ} read (record { order = order.0; preference = preference.0; flags = flags.0; services = services.0; regexp = regexp.0; replacement = [] }, regexp.1) = cc in
+    let both : ◌≡◌ {A = Naptr × ℕ} read (
+      record {
+        order = order.0;
+        preference = preference.0;
+        flags = flags.0;
+        services = services.0;
+        regexp = regexp.0;
+        replacement = [];
+      },
+      regexp.1,
+    ) = cc in
     let one = number_part cut bytes to from order o in
     let two = number_part cut bytes to order.1 preference p in
     let three = text_part cut bytes to preference.1 flags f in
@@ -130,7 +160,9 @@ front_parts cut bytes to from read (goes order o (goes preference p (goes flags 
       services = four.0;
       regexp = five.0;
       parts = one.1
-      ∙ ap (λ l. to_be_bytes w16 order.0 ++ l) (two.1 ∙ ap (λ l. to_be_bytes w16 preference.0 ++ l) (three.1 ∙ ap (λ l. string_wire flags.0 ++ l) (four.1 ∙ ap (λ l. string_wire services.0 ++ l) five.1)));
+          ∙ ap (λ l. to_be_bytes w16 order.0 ++ l)
+          (two.1 ∙ ap (λ l. to_be_bytes w16 preference.0 ++ l)
+          (three.1 ∙ ap (λ l. string_wire flags.0 ++ l) (four.1 ∙ ap (λ l. string_wire services.0 ++ l) five.1)));
     })
 front_parts cut bytes to from read (goes order o (goes preference p (goes flags f (goes services s (stops fault h is))))) = absurd (cc)
 front_parts cut bytes to from read (goes order o (goes preference p (goes flags f (stops fault h is)))) = absurd (cc)
@@ -203,7 +235,9 @@ front_stands cut bytes to from rule h l =
 pub rdata_is_read : (bytes : List ℕ) (rule : Naptr) → IsRule rule → bytes ≡ rdata rule → BareRule bytes (Ok rule)
 rdata_is_read bytes rule h is =
     let f = front_stands Short bytes (length bytes) 0 rule h (subst (Left bytes (length bytes) 0) is (left_all bytes)) in
-    goes (record rule { replacement = [] }, f.name) f.front (goes (rule.replacement, f.name + length (wire_of rule.replacement)) (inl (rule.replacement, h.replacement, f.left.stand, refl)) (inl (f.left.size, refl)))
+    goes (record rule { replacement = [] }, f.name) f.front
+    (goes (rule.replacement, f.name + length (wire_of rule.replacement))
+    (inl (rule.replacement, h.replacement, f.left.stand, refl)) (inl (f.left.size, refl)))
 
 -- and in a message
 pub rdata_stands : (message : List ℕ) (from : ℕ) (rule : Naptr) → IsRule rule → StandsAt message from (rdata rule)
@@ -211,7 +245,14 @@ pub rdata_stands : (message : List ℕ) (from : ℕ) (rule : Naptr) → IsRule r
 rdata_stands message from rule h stand =
     let f = front_stands Shape message (from + length (rdata rule)) from rule h (record { stand = stand; size = refl }) in
     let end = f.left.size in
-    goes (record rule { replacement = [] }, f.name) f.front (goes (rule.replacement, f.name + length (wire_of rule.replacement)) (inl (rule.replacement, f.name + length (wire_of rule.replacement), (name_stands message f.name rule.replacement h.replacement f.left.stand, omega arith), refl)) (inl (end, refl)))
+    goes (record rule { replacement = [] }, f.name) f.front
+    (goes (rule.replacement, f.name + length (wire_of rule.replacement))
+    (inl (
+      rule.replacement,
+      f.name + length (wire_of rule.replacement),
+      (name_stands message f.name rule.replacement h.replacement f.left.stand, omega arith),
+      refl,
+    )) (inl (end, refl)))
 
 pub IsSingle-bare_rule : (bytes : List ℕ) → IsSingle (BareRule bytes)
 IsSingle-bare_rule bytes = IsSingle-rule Short Trailing (BareName bytes) bytes 0 (length bytes) (IsSingle-bare_name bytes)

@@ -71,20 +71,28 @@ rdata-parts rule = simp append_assoc
 
 -- what the fields answer one after another
 fields_cmp : (one other : Naptr)
-    → bytes_cmp (from_flags one) (from_flags other) ≡ ordering_then (ordering_then (ordering_then (bytes_cmp (string_wire one.flags) (string_wire other.flags)) (bytes_cmp (string_wire one.services) (string_wire other.services))) (bytes_cmp (string_wire one.regexp) (string_wire other.regexp))) (bytes_cmp (wire_of one.replacement) (wire_of other.replacement))
+    → bytes_cmp (from_flags one) (from_flags other)
+    ≡ ordering_then (ordering_then
+    (ordering_then (bytes_cmp (string_wire one.flags) (string_wire other.flags))
+    (bytes_cmp (string_wire one.services) (string_wire other.services)))
+    (bytes_cmp (string_wire one.regexp) (string_wire other.regexp)))
+    (bytes_cmp (wire_of one.replacement) (wire_of other.replacement))
 fields_cmp one other =
     let f = bytes_cmp (string_wire one.flags) (string_wire other.flags) in
     let s = bytes_cmp (string_wire one.services) (string_wire other.services) in
     let r = bytes_cmp (string_wire one.regexp) (string_wire other.regexp) in
     let w = bytes_cmp (wire_of one.replacement) (wire_of other.replacement) in
     string_cmp-append one.flags other.flags (from_services one) (from_services other)
-    ∙ ap (ordering_then f) (string_cmp-append one.services other.services (from_regexp one) (from_regexp other) ∙ ap (ordering_then s) (string_cmp-append one.regexp other.regexp (wire_of one.replacement) (wire_of other.replacement)))
+    ∙ ap (ordering_then f) (string_cmp-append one.services other.services (from_regexp one) (from_regexp other)
+    ∙ ap (ordering_then s)
+    (string_cmp-append one.regexp other.regexp (wire_of one.replacement) (wire_of other.replacement)))
     ∙ sym (then_assoc (ordering_then f s) r w ∙ then_assoc f s (ordering_then r w))
 
 rank_parts : (one other : Naptr) (o p : Ordering) → o ≡ nat_cmp one.order other.order
     → p ≡ nat_cmp one.preference other.preference → (f s r w : Ordering)
     → bytes_cmp (from_flags one) (from_flags other) ≡ ordering_then (ordering_then (ordering_then f s) r) w
-    → ordering_then (ordering_then (ordering_then (ordering_then (ordering_then o p) f) s) r) w ≡ ordering_then o (ordering_then p (bytes_cmp (rdata one) (rdata other)))
+    → ordering_then (ordering_then (ordering_then (ordering_then (ordering_then o p) f) s) r) w
+    ≡ ordering_then o (ordering_then p (bytes_cmp (rdata one) (rdata other)))
 rank_parts one other Less p order preference f s r w is = refl
 rank_parts one other Greater p order preference f s r w is = refl
 rank_parts one other Equal Less order preference f s r w is = refl
@@ -109,8 +117,13 @@ pub rank_of-chain : (one other : Naptr) (o p op f opf s opfs r opfsr w all : Ord
 rank_of-chain one other o p op f opf s opfs r opfsr w all o_is p_is op_is f_is opf_is s_is opfs_is r_is opfsr_is w_is all_is =
     let fields =
     fields_cmp one other
-    ∙ ap (λ x. ordering_then (ordering_then (ordering_then x (bytes_cmp (string_wire one.services) (string_wire other.services))) (bytes_cmp (string_wire one.regexp) (string_wire other.regexp))) (bytes_cmp (wire_of one.replacement) (wire_of other.replacement))) (sym f_is)
-    ∙ ap (λ x. ordering_then (ordering_then (ordering_then f x) (bytes_cmp (string_wire one.regexp) (string_wire other.regexp))) (bytes_cmp (wire_of one.replacement) (wire_of other.replacement))) (sym s_is)
+    ∙ ap (λ x. ordering_then (ordering_then
+    (ordering_then x (bytes_cmp (string_wire one.services) (string_wire other.services)))
+    (bytes_cmp (string_wire one.regexp) (string_wire other.regexp)))
+    (bytes_cmp (wire_of one.replacement) (wire_of other.replacement))) (sym f_is)
+    ∙ ap (λ x. ordering_then (ordering_then (ordering_then f x)
+    (bytes_cmp (string_wire one.regexp) (string_wire other.regexp)))
+    (bytes_cmp (wire_of one.replacement) (wire_of other.replacement))) (sym s_is)
     ∙ ap (λ x. ordering_then (ordering_then (ordering_then f s) x) (bytes_cmp (wire_of one.replacement) (wire_of other.replacement))) (sym r_is)
     ∙ ap (ordering_then (ordering_then (ordering_then f s) r)) (sym w_is) in
     all_is
@@ -121,7 +134,8 @@ rank_of-chain one other o p op f opf s opfs r opfsr w all o_is p_is op_is f_is o
 
 pub rank_of-total : IsTotalOrder rank_of
 rank_of-total =
-    then_total (on_total (λ (rule : Naptr). rule.order) nat_cmp_total) (then_total (on_total (λ (rule : Naptr). rule.preference) nat_cmp_total) (on_total rdata nat_list_cmp_total))
+    then_total (on_total (λ (rule : Naptr). rule.order) nat_cmp_total)
+    (then_total (on_total (λ (rule : Naptr). rule.preference) nat_cmp_total) (on_total rdata nat_list_cmp_total))
 
 number_parts : (n m : ℕ) (us vs : List ℕ) → n < 2 ^ 16 → m < 2 ^ 16 → to_be_bytes w16 n ++ us ≡ to_be_bytes w16 m ++ vs → (n ≡ m) × (us ≡ vs)
 number_parts n m us vs hn hm is =

@@ -1,5 +1,7 @@
 //! Laws of rules.
-ghost use Rattle.naptr_rule.specs.Laws.{RdataTellsRules, RankTellsRules, RankIsTotal, RdataIsRead, OnlyRdataIsRead, OneRdataFault, RuleHasNoFault, RuleOrFault, WrittenIsReadIn, OneRuleIn, SomeRuleIn};
+ghost use Rattle.naptr_rule.specs.Laws.{RdataTellsRules, RankTellsRules, RankIsTotal, RdataIsRead, OnlyRdataIsRead};
+ghost use Rattle.naptr_rule.specs.Laws.{OneRdataFault, RuleHasNoFault, RuleOrFault, WrittenIsReadIn, OneRuleIn};
+ghost use Rattle.naptr_rule.specs.Laws.{SomeRuleIn};
 
 /// No two rules have the same RDATA.
 pub fn rdata_tells_rules()

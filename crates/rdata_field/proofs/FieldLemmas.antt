@@ -1,5 +1,6 @@
 -- Addresses, character-strings, names and ends of RDATA come to one thing each, and in a list of bytes to something.
-use Rattle.std.proofs.Common.{◌≡◌, ◌↔◌, ◌⊎◌, ℕ, suc, ◌+◌, ◌<◌, ◌≤◌, List, [], ◌∷◌, length, take, drop, get_or, Result, Ok, Err, refl, sym, ◌∙◌, ap, subst, inl, inr, arith, length-drop}
+use Rattle.std.proofs.Common.{◌≡◌, ◌↔◌, ◌⊎◌, ℕ, suc, ◌+◌, ◌<◌, ◌≤◌, List, [], ◌∷◌, length, take, drop, get_or, Result}
+use Rattle.std.proofs.Common.{Ok, Err, refl, sym, ◌∙◌, ap, subst, inl, inr, arith, length-drop}
 use Rattle.std.proofs.lemmas.List.{length-take}
 use Rattle.std.specs.List.{AllByRecursion}
 use Rattle.enum_base.proofs.StageLemmas.{IsSingle, IsTotal}
@@ -52,8 +53,8 @@ string-there message at size inside is room =
     let whole : length (label_bytes message at size) ≡ size = omega (arith, length-take size (drop (at + 1) message), length-drop (at + 1) message) in
     let here = from_place message at inside in (
       ap (take (suc (length (label_bytes message at size)))) here
-      ∙ ap (λ n. get_or message at 0 ∷ take n (drop (at + 1) message)) whole
-      ∙ ap (λ b. b ∷ label_bytes message at size) (sym is ∙ sym whole),
+          ∙ ap (λ n. get_or message at 0 ∷ take n (drop (at + 1) message)) whole
+          ∙ ap (λ b. b ∷ label_bytes message at size) (sym is ∙ sym whole),
       whole,
     )
 

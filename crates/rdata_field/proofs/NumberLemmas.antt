@@ -1,5 +1,6 @@
 -- Numbers of 16 and of 32 bits come to one thing each, and in a list of bytes to something.
-use Rattle.std.proofs.Common.{◌≡◌, ◌⊎◌, ℕ, zero, suc, ◌+◌, ◌<◌, ◌≤◌, ◌^◌, List, [], ◌∷◌, length, take, drop, get_or, Result, Ok, Err, refl, sym, ◌∙◌, ap, subst, inl, inr, arith}
+use Rattle.std.proofs.Common.{◌≡◌, ◌⊎◌, ℕ, zero, suc, ◌+◌, ◌<◌, ◌≤◌, ◌^◌, List, [], ◌∷◌, length, take, drop, get_or}
+use Rattle.std.proofs.Common.{Result, Ok, Err, refl, sym, ◌∙◌, ap, subst, inl, inr, arith}
 use Rattle.std.proofs.lemmas.Nat.{from_be_bytes-to_be_bytes_2, from_be_bytes-to_be_bytes_4, be_bytes_2, be_bytes_4}
 use Rattle.std.specs.Int.{w16, w32, to_be_bytes, from_be_bytes}
 use Rattle.std.specs.List.{AllByRecursion}
@@ -52,7 +53,9 @@ IsTotal-u16 {F} cut message to at all fits = by_room (by_size (at + 2) to)
     by_room (inl room) =
         let there = two_stand message at (omega arith) in
         let value = from_be_bytes w16 (high ∷ low ∷ []) in
-        let bytes : to_be_bytes w16 value ≡ high ∷ low ∷ [] = be_bytes_2 (high ∷ low ∷ []) value refl (two_bytes high low (byte_at message at all) (byte_at message (at + 1) all)) refl in
+        let bytes : to_be_bytes w16 value ≡ high ∷ low ∷ [] =
+        be_bytes_2 (high ∷ low ∷ []) value refl
+        (two_bytes high low (byte_at message at all) (byte_at message (at + 1) all)) refl in
         record {
           result = Ok (value, at + 2);
           comes = inl (value, u16_small high low (byte_at message at all) (byte_at message (at + 1) all), (there ∙ sym bytes, room), refl);
@@ -84,7 +87,12 @@ four_bytes a b c d h k l m (suc (suc (suc (suc i)))) = omega arith
 four_stand : (message : List ℕ) (at : ℕ) → at + 4 ≤ length message
     → StandsAt message at (get_or message at 0 ∷ get_or message (at + 1) 0 ∷ get_or message (at + 2) 0 ∷ get_or message (at + 3) 0 ∷ [])
 four_stand message at inside =
-    ap (take 4) (from_place message at (omega arith) ∙ ap (λ l. get_or message at 0 ∷ l) (next (at + 1) (at + 2) (omega arith) (omega arith) ∙ ap (λ l. get_or message (at + 1) 0 ∷ l) (next (at + 2) (at + 3) (omega arith) (omega arith) ∙ ap (λ l. get_or message (at + 2) 0 ∷ l) (from_place message (at + 3) (omega arith)))))
+    ap (take 4) (from_place message at (omega arith)
+    ∙ ap (λ l. get_or message at 0 ∷ l)
+    (next (at + 1) (at + 2) (omega arith) (omega arith)
+    ∙ ap (λ l. get_or message (at + 1) 0 ∷ l)
+    (next (at + 2) (at + 3) (omega arith) (omega arith)
+    ∙ ap (λ l. get_or message (at + 2) 0 ∷ l) (from_place message (at + 3) (omega arith)))))
   where
     next : (here there : ℕ) → here + 1 ≡ there → here < length message → drop here message ≡ get_or message here 0 ∷ drop there message
     next here there is low = subst (λ n. drop here message ≡ get_or message here 0 ∷ drop n message) is (from_place message here low)
@@ -101,7 +109,10 @@ u32_there message at all inside value is =
     let b = get_or message (at + 1) 0 in
     let c = get_or message (at + 2) 0 in
     let d = get_or message (at + 3) 0 in
-    let bytes : to_be_bytes w32 value ≡ a ∷ b ∷ c ∷ d ∷ [] = be_bytes_4 (a ∷ b ∷ c ∷ d ∷ []) value refl (four_bytes a b c d (byte_at message at all) (byte_at message (at + 1) all) (byte_at message (at + 2) all) (byte_at message (at + 3) all)) is in
+    let bytes : to_be_bytes w32 value ≡ a ∷ b ∷ c ∷ d ∷ [] =
+    be_bytes_4 (a ∷ b ∷ c ∷ d ∷ []) value refl
+    (four_bytes a b c d (byte_at message at all) (byte_at message (at + 1) all) (byte_at message (at + 2) all)
+    (byte_at message (at + 3) all)) is in
     let small = u32_small a b c d (byte_at message at all) (byte_at message (at + 1) all) (byte_at message (at + 2) all) (byte_at message (at + 3) all) in
     (subst (λ v. v < 2 ^ 32) (sym is) small, four_stand message at inside ∙ sym bytes)
 

@@ -1,6 +1,7 @@
 //! How a report is printed.
 ghost use Rattle.std.specs.Prelude.{◌≡◌, ◌++◌, OnOk, IfOk, decimal, flat_map, codes};
-ghost use Rattle.report_text.specs.Printing.{path_text, word_of, rule_text, given_text, end_line, last_domain, loop_line, edge_line, edge_lines, last_line, printed};
+ghost use Rattle.report_text.specs.Printing.{path_text, word_of, rule_text, given_text, end_line, last_domain};
+ghost use Rattle.report_text.specs.Printing.{loop_line, edge_line, edge_lines, last_line, printed};
 
 use ddds_walk::{End, LoopPath, Outcome, Report};
 use dns_name::Name;

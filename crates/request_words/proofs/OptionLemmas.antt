@@ -74,18 +74,20 @@ given_from choices [] e = ([], refl, tt)
 given_from choices (word ∷ []) e = absurd (cc e)
 given_from choices (word ∷ value ∷ rest) e =
     let parts = both (is_option choices word) (are_options choices rest) e in
-    let more = given_from choices rest parts.1 in
-    (record { option = word; value = value }
-        ∷ more.0, ap (λ ws. word ∷ value ∷ ws) more.1,
-        (Any-from_list_any (λ choice. bytes_eq word (option_word choice.option)) choices parts.0, more.2))
+    let more = given_from choices rest parts.1 in (
+      record { option = word; value = value }
+          ∷ more.0,
+      ap (λ ws. word ∷ value ∷ ws) more.1,
+      (Any-from_list_any (λ choice. bytes_eq word (option_word choice.option)) choices parts.0, more.2),
+    )
 
 given_to : (choices : List Choice) (given : List Given) → AllByRecursion (λ one. IsOption choices one.option) given
     → are_options choices (words_of given) ≡ true
 given_to choices [] h = refl
 given_to choices (one ∷ rest) h =
     ap (λ t. t && are_options choices (words_of rest))
-        (list_any-from_Any (λ choice. bytes_eq one.option (option_word choice.option)) choices h.0)
-        ∙ given_to choices rest h.1
+    (list_any-from_Any (λ choice. bytes_eq one.option (option_word choice.option)) choices h.0)
+    ∙ given_to choices rest h.1
 
 module _ (app : AppName) where
   often_from : (given : List Given) (choice : Choice) → is_often app (words_of given) choice ≡ true → IsOften app given choice
@@ -93,7 +95,7 @@ module _ (app : AppName) where
       let same = ap length (places_same (option_word choice.option) 0 given) in
       let count : ℕ = length (places_in (option_word choice.option) 0 (words_of given)) in
       let parts = both (nat_le choice.least (length (places_in (option_word choice.option) 0 (words_of given))))
-          (nat_le (length (places_in (option_word choice.option) 0 (words_of given))) (most_for app choice)) e in
+      (nat_le (length (places_in (option_word choice.option) 0 (words_of given))) (most_for app choice)) e in
       record { least = subst (λ n. choice.least ≤ n) same (least_of _ _ parts.0); most = subst (λ n. n ≤ most_for app choice) same (least_of _ _ parts.1) }
     where
       least_of : (n m : ℕ) → nat_le n m ≡ true → n ≤ m
@@ -113,10 +115,13 @@ module _ (app : AppName) where
       × AllByRecursion (IsOften app given) choices
   chosen_from choices words e =
       let parts = both (are_options choices words) (list_all (is_often app words) choices) e in
-      let found = given_from choices words parts.0 in
-      (found.0, found.1, found.2,
-          all_from (is_often app (words_of found.0)) (IsOften app found.0) (often_from found.0) choices
-          (subst (λ ws. list_all (is_often app ws) choices ≡ true) found.1 parts.1))
+      let found = given_from choices words parts.0 in (
+        found.0,
+        found.1,
+        found.2,
+        all_from (is_often app (words_of found.0)) (IsOften app found.0) (often_from found.0) choices
+            (subst (λ ws. list_all (is_often app ws) choices ≡ true) found.1 parts.1),
+      )
 
   pub chosen_to : (choices : List Choice) (given : List Given)
       → AllByRecursion (λ one. IsOption choices one.option) given → AllByRecursion (IsOften app given) choices

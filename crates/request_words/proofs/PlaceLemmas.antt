@@ -52,7 +52,7 @@ added_from : (before values : List ℕ) → added (places_from before) values �
 added_from before [] = ap places_from (sym (append-nil before))
 added_from before (value ∷ values) =
     ap (λ (p : Places). added p values) (from_more before value) ∙ added_from (before ++ value ∷ []) values
-        ∙ ap places_from (append_assoc before (value ∷ []) values)
+    ∙ ap places_from (append_assoc before (value ∷ []) values)
 
 pub added_all : (values : List ℕ) → added (record { count = 0; at = replicate {A = ℕ} 64 0 }) values ≡ places_from values
 added_all values = added_from [] values
@@ -63,9 +63,11 @@ pub words_left : (left : List (String Global)) (word : String Global) → 2 ≤ 
 words_left [] word long is = absurd (omega arith)
 words_left (a ∷ []) word long is = absurd (omega arith)
 words_left (a ∷ b ∷ rest) word long is =
-    let whole : take (length (a ∷ b ∷ rest) - 2) rest ≡ rest = take_all (length (a ∷ b ∷ rest) - 2) rest (omega arith) in
-    (string_bytes b, ap (λ (w : String Global). string_bytes w ∷ string_bytes b ∷ texts_of rest) (sym is)
-        ∙ ap (λ (r : List (String Global)). string_bytes word ∷ string_bytes b ∷ texts_of r) (sym whole))
+    let whole : take (length (a ∷ b ∷ rest) - 2) rest ≡ rest = take_all (length (a ∷ b ∷ rest) - 2) rest (omega arith) in (
+      string_bytes b,
+      ap (λ (w : String Global). string_bytes w ∷ string_bytes b ∷ texts_of rest) (sym is)
+          ∙ ap (λ (r : List (String Global)). string_bytes word ∷ string_bytes b ∷ texts_of r) (sym whole),
+    )
 
 -- one option more was read
 pub added_more : (places more : Places) (option : List ℕ) (at : ℕ) (left : List (String Global)) (word : String Global)

@@ -30,7 +30,7 @@ other_word one (first ∷ rows) row apart (zero, l, e) same =
     cc (sym (ap not equal) ∙ parts.0)
 other_word one (first ∷ rows) row apart (suc k, l, e) same =
     other_word one rows row (both (not (bytes_eq one.word first.word))
-        (list_all (λ other. not (bytes_eq one.word other.word)) rows) apart).1 (k, omega (arith, l), e) same
+    (list_all (λ other. not (bytes_eq one.word other.word)) rows) apart).1 (k, omega (arith, l), e) same
 
 -- the row of a word is the one that is found
 pub found_only : (word : List ℕ) (rows : List Row) (row : Row) → are_apart rows ≡ true → Contains rows row
@@ -38,7 +38,7 @@ pub found_only : (word : List ℕ) (rows : List Row) (row : Row) → are_apart r
 found_only word [] row apart (k, l, e) same = absurd (omega (arith, l))
 found_only word (one ∷ rows) row apart (zero, l, e) same =
     ap (λ t. cond t (Some one) (find (λ (r : Row). bytes_eq word r.word) rows))
-        ((bytes_eq-Decides word one.word).1 (same ∙ ap (λ (r : Row). r.word) (sym e))) ∙ ap Some e
+    ((bytes_eq-Decides word one.word).1 (same ∙ ap (λ (r : Row). r.word) (sym e))) ∙ ap Some e
 found_only word (one ∷ rows) row apart (suc k, l, e) same =
     let parts = both (list_all (λ other. not (bytes_eq one.word other.word)) rows) (are_apart rows) apart in
     let later : Contains rows row = (k, omega (arith, l), e) in
@@ -100,8 +100,8 @@ cut_words row [] long same = absurd (omega (arith, long))
 cut_words row (word ∷ words) long same =
     ap (λ (w : List ℕ). w ∷ words) same
     ∙ ap (λ (ws : List (List ℕ)). row.word ∷ ws)
-        (sym (take-append-drop (length row.arguments) words)
-        ∙ ap (λ (ws : List (List ℕ)). take (length row.arguments) words ++ ws) (sym options))
+    (sym (take-append-drop (length row.arguments) words)
+    ∙ ap (λ (ws : List (List ℕ)). take (length row.arguments) words ++ ws) (sym options))
   where
     options : drop (size_of row) (word ∷ words) ≡ drop (length row.arguments) words
     options = sym (drop-drop (length row.arguments) 1 (word ∷ words) ∙ ap (λ n. drop n (word ∷ words)) (omega arith))

@@ -87,8 +87,13 @@ pub record ArePlaces (places : Places) (values : List ℕ) : Type 0 where
 abbrev pub request_of : Command → AppName → (OptionName → List ℕ) → Request
 request_of command.Resolve app values =
     request.Resolve
-        (record { app = app; string = 2; want = first_of (values Want); apex = first_of (values Apex);
-        origin = Files (places_from (values Zones)) })
+    (record {
+      app = app;
+      string = 2;
+      want = first_of (values Want);
+      apex = first_of (values Apex);
+      origin = Files (places_from (values Zones));
+    })
 request_of command.Show app values = request.Show
 
 -- the words mean this request: a row of the table spells them, and it is the request of that row's command

@@ -37,7 +37,9 @@ at_rest l i j k a b d not not' = get_or-set_other (set l i a) j k b d not' ∙ g
 found_by : (who at : List ℕ) (q v n : ℕ) → get_or at q 0 ≡ v → v < n → get_or who v 0 ≡ q → (get_or at q 0 < n) × (get_or who (get_or at q 0) 0 ≡ q)
 found_by who at q v n e h f = (subst (λ x. x < n) (sym e) h, subst (λ x. get_or who x 0 ≡ q) (sym e) f)
 
-pub arranging_none : (given : List Record) (keeps : List Keep) (who at : List ℕ) → who ≡ range_with_len 0 (length given) → at ≡ range_with_len 0 (length given) → IsArranging given keeps 0 given who at
+pub arranging_none : (given : List Record) (keeps : List Keep) (who at : List ℕ)
+    → who ≡ range_with_len 0 (length given) → at ≡ range_with_len 0 (length given)
+    → IsArranging given keeps 0 given who at
 arranging_none given keeps who at is is' = record {
   size = refl;
   whos = ap length is ∙ length-range_with_len 0 (length given);
@@ -56,7 +58,10 @@ arranging_none given keeps who at is is' = record {
         ap (λ x. get_or x p 0) is ∙ get_or-range_with_len 0 (length given) p 0 h ∙ e
 
 -- the next record that is kept has not been moved to the front
-pub from_after : (given : List Record) (keeps : List Keep) (next from : ℕ) (items : List Record) (who at : List ℕ) (keep : Keep) → IsArranging given keeps next items who at → AreApart (length given) keeps → next < length keeps → keep ≡ get_or keeps next keep → from ≡ get_or at keep.place 0 → (next ≤ from) × (from < length given) × (keep.place < length given)
+pub from_after : (given : List Record) (keeps : List Keep) (next from : ℕ) (items : List Record) (who at : List ℕ)
+    (keep : Keep) → IsArranging given keeps next items who at → AreApart (length given) keeps → next < length keeps
+    → keep ≡ get_or keeps next keep → from ≡ get_or at keep.place 0
+    → (next ≤ from) × (from < length given) × (keep.place < length given)
 from_after given keeps next from items who at keep m apart h is there =
     let place : keep.place < length given = subst (λ (k : Keep). k.place < length given) (sym is) (apart.within next keep h) in
     let f = m.found keep.place place in
@@ -71,7 +76,12 @@ from_after given keeps next from items who at keep m apart h is there =
         absurd (apart.apart from next keep lt h (sym (m.taken from keep lt) ∙ own ∙ ap (λ (k : Keep). k.place) is))
 
 -- one more record is moved to the front
-pub arranging_more : (given : List Record) (keeps : List Keep) (next from other : ℕ) (items : List Record) (who at : List ℕ) (keep : Keep) (x : Record) → IsArranging given keeps next items who at → AreApart (length given) keeps → next < length keeps → keep ≡ get_or keeps next keep → from ≡ get_or at keep.place 0 → other ≡ get_or who next 0 → x ≡ get_or (swap items next from) next x → IsArranging given keeps (next + 1) (set (swap items next from) next (settled keep.ttl x)) (set (set who from other) next keep.place) (set (set at other from) keep.place next)
+pub arranging_more : (given : List Record) (keeps : List Keep) (next from other : ℕ) (items : List Record)
+    (who at : List ℕ) (keep : Keep) (x : Record) → IsArranging given keeps next items who at
+    → AreApart (length given) keeps → next < length keeps → keep ≡ get_or keeps next keep
+    → from ≡ get_or at keep.place 0 → other ≡ get_or who next 0 → x ≡ get_or (swap items next from) next x
+    → IsArranging given keeps (next + 1) (set (swap items next from) next (settled keep.ttl x))
+    (set (set who from other) next keep.place) (set (set at other from) keep.place next)
 arranging_more given keeps next from other items who at keep x m apart h is there named read = record {
   size = length-set (swap items next from) next (settled keep.ttl x) ∙ length-swap items next from ∙ m.size;
   whos = length-set (set who from other) next keep.place ∙ length-set who from other ∙ m.whos;
@@ -123,17 +133,23 @@ arranging_more given keeps next from other items who at keep x m apart h is ther
     at' : List ℕ
     at' = set (set at other from) keep.place next
 
-    find : (q : ℕ) → q < length given → (q ≡ keep.place) ⊎ (q ≡ keep.place → ⊥) → (q ≡ other) ⊎ (q ≡ other → ⊥) → (get_or at' q 0 < length given) × (get_or who' (get_or at' q 0) 0 ≡ q)
+    find : (q : ℕ) → q < length given → (q ≡ keep.place) ⊎ (q ≡ keep.place → ⊥) → (q ≡ other) ⊎ (q ≡ other → ⊥)
+        → (get_or at' q 0 < length given) × (get_or who' (get_or at' q 0) 0 ≡ q)
     find q l (inl e) s =
-        found_by who' at' q next (length given) (ap (λ k. get_or at' k 0) e ∙ at_last at other keep.place from next 0 at_place) next_in (at_last who from next other keep.place 0 who_next ∙ sym e)
+        found_by who' at' q next (length given)
+        (ap (λ k. get_or at' k 0) e ∙ at_last at other keep.place from next 0 at_place) next_in
+        (at_last who from next other keep.place 0 who_next ∙ sym e)
     find q l (inr n) (inl e) =
         let apart' : from ≢ next = λ f. n (e ∙ named ∙ ap (λ k. get_or who k 0) (sym f) ∙ own) in
-        found_by who' at' q from (length given) (ap (λ k. get_or at' k 0) e ∙ at_first at other keep.place from next 0 (λ f. n (e ∙ f)) at_other) b.1 (at_first who from next other keep.place 0 apart' who_from ∙ sym e)
+        found_by who' at' q from (length given)
+        (ap (λ k. get_or at' k 0) e ∙ at_first at other keep.place from next 0 (λ f. n (e ∙ f)) at_other) b.1
+        (at_first who from next other keep.place 0 apart' who_from ∙ sym e)
     find q l (inr n) (inr n') =
         let f = m.found q l in
         let not_next : get_or at q 0 ≢ next = λ e. n' (sym f.1 ∙ ap (λ k. get_or who k 0) e ∙ sym named) in
         let not_from : get_or at q 0 ≢ from = λ e. n (sym f.1 ∙ ap (λ k. get_or who k 0) e ∙ own) in
-        found_by who' at' q (get_or at q 0) (length given) (at_rest at other keep.place q from next 0 n' n) f.0 (at_rest who from next (get_or at q 0) other keep.place 0 not_from not_next ∙ f.1)
+        found_by who' at' q (get_or at q 0) (length given) (at_rest at other keep.place q from next 0 n' n) f.0
+        (at_rest who from next (get_or at q 0) other keep.place 0 not_from not_next ∙ f.1)
 
     name : (p : ℕ) → p < length given → (p ≡ next) ⊎ (p ≡ next → ⊥) → (p ≡ from) ⊎ (p ≡ from → ⊥) → get_or who' p 0 < length given
     name p l (inl e) s = subst (λ k. k < length given) (sym (ap (λ k. get_or who' k 0) e ∙ at_last who from next other keep.place 0 who_next)) b.2
@@ -162,19 +178,24 @@ arranging_more given keeps next from other items who at keep x m apart h is ther
     moved : (d : Record) → get_or (swap items next from) next d ≡ get_or given keep.place d
     moved d = (swapped d).0 ∙ m.left from d b.0 b.1 ∙ ap (λ i. get_or given i d) own
 
-    do_at : (k : ℕ) (d : Record) (e : Keep) → k < next + 1 → (k ≡ next) ⊎ (k ≡ next → ⊥) → get_or (set (swap items next from) next (settled keep.ttl x)) k d ≡ settled (get_or keeps k e).ttl (get_or given (get_or keeps k e).place d)
+    do_at : (k : ℕ) (d : Record) (e : Keep) → k < next + 1 → (k ≡ next) ⊎ (k ≡ next → ⊥)
+        → get_or (set (swap items next from) next (settled keep.ttl x)) k d
+        ≡ settled (get_or keeps k e).ttl (get_or given (get_or keeps k e).place d)
     do_at k d e l (inl f) =
-        ap (λ i. get_or (set (swap items next from) next (settled keep.ttl x)) i d) f ∙ get_or-set_same (swap items next from) next (settled keep.ttl x) d swap_next
+        ap (λ i. get_or (set (swap items next from) next (settled keep.ttl x)) i d) f
+        ∙ get_or-set_same (swap items next from) next (settled keep.ttl x) d swap_next
         ∙ ap (settled keep.ttl) (read ∙ get_or_default (swap items next from) next x d swap_next ∙ moved d)
         ∙ ap (λ (y : Keep). settled y.ttl (get_or given y.place d)) (kept_at k e f)
     do_at k d e l (inr n) =
         let l' = before k l n in
         get_or-set_other (swap items next from) next k (settled keep.ttl x) d n ∙ (swapped d).2 k n (not_from k l') ∙ m.done k d e l'
 
-    leave : (p : ℕ) (d : Record) → next + 1 ≤ p → p < length given → (p ≡ from) ⊎ (p ≡ from → ⊥) → get_or (set (swap items next from) next (settled keep.ttl x)) p d ≡ get_or given (get_or who' p 0) d
+    leave : (p : ℕ) (d : Record) → next + 1 ≤ p → p < length given → (p ≡ from) ⊎ (p ≡ from → ⊥)
+        → get_or (set (swap items next from) next (settled keep.ttl x)) p d ≡ get_or given (get_or who' p 0) d
     leave p d l n (inl e) =
         let not : from ≢ next = λ f. absurd (omega (arith, l, e, f)) in
-        ap (λ i. get_or (set (swap items next from) next (settled keep.ttl x)) i d) e ∙ get_or-set_other (swap items next from) next from (settled keep.ttl x) d not
+        ap (λ i. get_or (set (swap items next from) next (settled keep.ttl x)) i d) e
+        ∙ get_or-set_other (swap items next from) next from (settled keep.ttl x) d not
         ∙ (swapped d).1 ∙ m.left next d (omega arith) next_in
         ∙ ap (λ i. get_or given i d) (sym named ∙ sym (at_first who from next other keep.place 0 not who_from) ∙ ap (λ i. get_or who' i 0) (sym e))
     leave p d l n (inr n') =
@@ -186,26 +207,42 @@ arranging_more given keeps next from other items who at keep x m apart h is ther
 abbrev keep_at : List Keep → ℕ → Keep
 keep_at keeps next = get_or keeps next (record { place = 0; ttl = 0 })
 
-pub next_within : (given : List Record) (keeps : List Keep) (next : ℕ) (items : List Record) (who at : List ℕ) → IsArranging given keeps next items who at → AreApart (length given) keeps → next < length keeps → (next < length items) × (next < length who)
+pub next_within : (given : List Record) (keeps : List Keep) (next : ℕ) (items : List Record) (who at : List ℕ)
+    → IsArranging given keeps next items who at → AreApart (length given) keeps → next < length keeps
+    → (next < length items) × (next < length who)
 next_within given keeps next items who at m apart h =
     let keep = keep_at keeps next in
-    let b = from_after given keeps next (get_or at keep.place 0) items who at keep m apart h (get_or_default keeps next (record { place = 0; ttl = 0 }) keep h) refl in
+    let b = from_after given keeps next (get_or at keep.place 0) items who at keep m apart h
+    (get_or_default keeps next (record { place = 0; ttl = 0 }) keep h) refl in
     let u = b.0 in
     let v = b.1 in
     let e = m.size in
     let f = m.whos in
     (omega (arith, u, v, e), omega (arith, u, v, f))
 
-pub arranging_next : (given : List Record) (keeps : List Keep) (next : ℕ) (items moved : List Record) (who at : List ℕ) (x y : Record) → IsArranging given keeps next items who at → AreApart (length given) keeps → next < length keeps → moved ≡ swap items next (get_or at (keep_at keeps next).place 0) → x ≡ get_or moved next x → y ≡ settled (keep_at keeps next).ttl (get_or moved next x) → IsArranging given keeps (next + 1) (set moved next y) (set (set who (get_or at (keep_at keeps next).place 0) (get_or who next 0)) next (keep_at keeps next).place) (set (set at (get_or who next 0) (get_or at (keep_at keeps next).place 0)) (keep_at keeps next).place next)
+pub arranging_next : (given : List Record) (keeps : List Keep) (next : ℕ) (items moved : List Record) (who at : List ℕ)
+    (x y : Record) → IsArranging given keeps next items who at → AreApart (length given) keeps → next < length keeps
+    → moved ≡ swap items next (get_or at (keep_at keeps next).place 0) → x ≡ get_or moved next x
+    → y ≡ settled (keep_at keeps next).ttl (get_or moved next x)
+    → IsArranging given keeps (next + 1) (set moved next y)
+    (set (set who (get_or at (keep_at keeps next).place 0) (get_or who next 0)) next (keep_at keeps next).place)
+    (set (set at (get_or who next 0) (get_or at (keep_at keeps next).place 0)) (keep_at keeps next).place next)
 arranging_next given keeps next items moved who at x y m apart h change read settle =
     let keep = keep_at keeps next in
     let from = get_or at keep.place 0 in
     let who' = set (set who from (get_or who next 0)) next keep.place in
     let at' = set (set at (get_or who next 0) from) keep.place next in
-    subst (λ (l : List Record). IsArranging given keeps (next + 1) (set l next y) who' at') (sym change) (subst (λ (r : Record). IsArranging given keeps (next + 1) (set (swap items next from) next r) who' at') (sym (settle ∙ ap (settled keep.ttl) (sym read))) (arranging_more given keeps next from (get_or who next 0) items who at keep x m apart h (get_or_default keeps next (record { place = 0; ttl = 0 }) keep h) refl refl (subst (λ (l : List Record). x ≡ get_or l next x) change read)))
+    subst (λ (l : List Record). IsArranging given keeps (next + 1) (set l next y) who' at') (sym change)
+    (subst (λ (r : Record). IsArranging given keeps (next + 1) (set (swap items next from) next r) who' at')
+    (sym (settle ∙ ap (settled keep.ttl) (sym read)))
+    (arranging_more given keeps next from (get_or who next 0) items who at keep x m apart h
+    (get_or_default keeps next (record { place = 0; ttl = 0 }) keep h) refl refl
+    (subst (λ (l : List Record). x ≡ get_or l next x) change read)))
 
 -- all that are kept stand at the front
-pub arranging_all : (given : List Record) (keeps : List Keep) (next : ℕ) (items : List Record) (who at : List ℕ) → IsArranging given keeps next items who at → next ≤ length keeps → length keeps ≤ next → AreSettled given keeps (take (length keeps) items)
+pub arranging_all : (given : List Record) (keeps : List Keep) (next : ℕ) (items : List Record) (who at : List ℕ)
+    → IsArranging given keeps next items who at → next ≤ length keeps → length keeps ≤ next
+    → AreSettled given keeps (take (length keeps) items)
 arranging_all given keeps next items who at m low high = record {
   size =
       let e = m.size in

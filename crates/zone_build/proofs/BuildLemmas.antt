@@ -1,5 +1,6 @@
 -- The zone that given records make, and the faults that they have.
-use Rattle.std.proofs.Common.{◌≡◌, ◌≢◌, ◌⊎◌, inl, inr, ℕ, ◌<◌, ◌≤◌, List, [], ◌∷◌, ◌++◌, length, get_or, Some, None, true, false, ◌==◌, refl, sym, ap, subst, ◌∙◌, arith}
+use Rattle.std.proofs.Common.{◌≡◌, ◌≢◌, ◌⊎◌, inl, inr, ℕ, ◌<◌, ◌≤◌, List, [], ◌∷◌, ◌++◌, length, get_or, Some, None}
+use Rattle.std.proofs.Common.{true, false, ◌==◌, refl, sym, ap, subst, ◌∙◌, arith}
 use Rattle.std.specs.Prelude.{Contains, IsTrue}
 use Rattle.std.specs.List.{AllByRecursion}
 use Rattle.std.proofs.lemmas.Bool.Decides.{nat_tests}
@@ -30,19 +31,23 @@ use Rattle.zone_build.proofs.DecideLemmas.{repeats_or_not, wildcard_folded}
 pub given_in : (given : List Record) (entries : List Given) → AreGivens given entries → (e : Given) → Contains entries e → Contains given e.given
 given_in given entries are e c = let p = are.each e c in (e.place, p.0, p.1)
 
-pub entry_in : (given : List Record) (entries : List Given) → AreGivens given entries → (one : Record) → Contains given one → (e : Given) × Contains entries e × (e.given ≡ one)
+pub entry_in : (given : List Record) (entries : List Given) → AreGivens given entries → (one : Record)
+    → Contains given one → (e : Given) × Contains entries e × (e.given ≡ one)
 entry_in given entries are one (k, l, is) = (record { place = k; given = one }, are.all k one l is, refl)
 
 -- no SOA
-pub no_start : (given : List Record) (entries : List Given) → AreGivens given entries → ((e : Given) → Contains entries e → ¬ (e.given.kind ≡ soa)) → ¬ HasSoa given
+pub no_start : (given : List Record) (entries : List Given) → AreGivens given entries
+    → ((e : Given) → Contains entries e → ¬ (e.given.kind ≡ soa)) → ¬ HasSoa given
 no_start given entries are none (one, c, k) =
     let e = entry_in given entries are one c in none e.0 e.1 (ap (λ (r : Record). r.kind) e.2 ∙ k)
 
-pub has_start : (given : List Record) (entries : List Given) (start : Given) → AreGivens given entries → Contains entries start → start.given.kind ≡ soa → HasSoa given
+pub has_start : (given : List Record) (entries : List Given) (start : Given) → AreGivens given entries
+    → Contains entries start → start.given.kind ≡ soa → HasSoa given
 has_start given entries start are c k = (start.given, given_in given entries are start c, k)
 
 -- one SOA
-pub one_start : (given : List Record) (entries : List Given) (start : Given) → AreGivens given entries → ((e : Given) → Contains entries e → e.given.kind ≡ soa → AreRepeats start.given e.given) → HasOneStart given
+pub one_start : (given : List Record) (entries : List Given) (start : Given) → AreGivens given entries
+    → ((e : Given) → Contains entries e → e.given.kind ≡ soa → AreRepeats start.given e.given) → HasOneStart given
 one_start given entries start are all one other c d k l =
     let e = entry_in given entries are one c in
     let f = entry_in given entries are other d in
@@ -50,11 +55,15 @@ one_start given entries start are all one other c d k l =
     let b = subst (AreRepeats start.given) f.2 (all f.0 f.1 (ap (λ (r : Record). r.kind) f.2 ∙ l)) in
     alike_trans Whole one start.given other (alike_sym Whole start.given one a) b
 
-pub start_repeats : (given : List Record) (entries : List Given) (start : Given) → AreGivens given entries → Contains entries start → start.given.kind ≡ soa → HasOneStart given → (e : Given) → Contains entries e → e.given.kind ≡ soa → AreRepeats start.given e.given
+pub start_repeats : (given : List Record) (entries : List Given) (start : Given) → AreGivens given entries
+    → Contains entries start → start.given.kind ≡ soa → HasOneStart given → (e : Given) → Contains entries e
+    → e.given.kind ≡ soa → AreRepeats start.given e.given
 start_repeats given entries start are c k one e d l = one start.given e.given (given_in given entries are start c) (given_in given entries are e d) k l
 
 -- the apex is the folded owner of each SOA
-pub apex_of : (given : List Record) (entries : List Given) (start : Given) (apex : Labels) → AreGivens given entries → Contains entries start → start.given.kind ≡ soa → apex ≡ folded_labels start.given.owner → HasOneStart given → (one : Record) → Contains given one → one.kind ≡ soa → apex ≡ folded_labels one.owner
+pub apex_of : (given : List Record) (entries : List Given) (start : Given) (apex : Labels) → AreGivens given entries
+    → Contains entries start → start.given.kind ≡ soa → apex ≡ folded_labels start.given.owner → HasOneStart given
+    → (one : Record) → Contains given one → one.kind ≡ soa → apex ≡ folded_labels one.owner
 apex_of given entries start apex are c k is one_soa one d l =
     is ∙ (one_soa start.given one (given_in given entries are start c) d k l).0.0
 
@@ -62,18 +71,26 @@ apex_same : (apex owner : Labels) → apex ≡ folded_labels owner → AreSame a
 apex_same apex owner is = ap folded_labels is ∙ sym (same_folded owner)
 
 -- at or below the apex is at or below the SOA
-pub inside_of : (given : List Record) (apex : Labels) → ((one : Record) → Contains given one → one.kind ≡ soa → apex ≡ folded_labels one.owner) → (r : Record) → IsBelow r.owner apex → IsInside given r
+pub inside_of : (given : List Record) (apex : Labels)
+    → ((one : Record) → Contains given one → one.kind ≡ soa → apex ≡ folded_labels one.owner) → (r : Record)
+    → IsBelow r.owner apex → IsInside given r
 inside_of given apex is r b start c k = below_same_top r.owner apex start.owner (apex_same apex start.owner (is start c k)) b
 
-pub of_inside : (given : List Record) (apex : Labels) → HasSoa given → ((one : Record) → Contains given one → one.kind ≡ soa → apex ≡ folded_labels one.owner) → (r : Record) → IsInside given r → IsBelow r.owner apex
+pub of_inside : (given : List Record) (apex : Labels) → HasSoa given
+    → ((one : Record) → Contains given one → one.kind ≡ soa → apex ≡ folded_labels one.owner) → (r : Record)
+    → IsInside given r → IsBelow r.owner apex
 of_inside given apex (start, c, k) is r i = below_same_top r.owner start.owner apex (sym (apex_same apex start.owner (is start c k))) (i start c k)
 
 -- the first record outside
-pub outside_first : (given : List Record) (apex : Labels) (place : ℕ) (one : Record) → HasSoa given → ((one : Record) → Contains given one → one.kind ≡ soa → apex ≡ folded_labels one.owner) → IsFirst (λ r. ¬ IsBelow r.owner apex) given place one → IsFirst (λ r. ¬ IsInside given r) given place one
+pub outside_first : (given : List Record) (apex : Labels) (place : ℕ) (one : Record) → HasSoa given
+    → ((one : Record) → Contains given one → one.kind ≡ soa → apex ≡ folded_labels one.owner)
+    → IsFirst (λ r. ¬ IsBelow r.owner apex) given place one → IsFirst (λ r. ¬ IsInside given r) given place one
 outside_first given apex place one has is f =
-    first_same (λ r. ¬ IsBelow r.owner apex) (λ r. ¬ IsInside given r) given place one (λ y c out i. out (of_inside given apex has is y i)) (λ y c out b. out (inside_of given apex is y b)) f
+    first_same (λ r. ¬ IsBelow r.owner apex) (λ r. ¬ IsInside given r) given place one
+    (λ y c out i. out (of_inside given apex has is y i)) (λ y c out b. out (inside_of given apex is y b)) f
 
-mixed_at : (given : List Record) (entries : List Given) → AreGivens given entries → (e : Given) (owner : Labels) → AreSame e.given.owner owner → Clashes given owner → IsMixedAt entries e
+mixed_at : (given : List Record) (entries : List Given) → AreGivens given entries → (e : Given) (owner : Labels)
+    → AreSame e.given.owner owner → Clashes given owner → IsMixedAt entries e
 mixed_at given entries are e owner same (one, other, c, d, a, b, k, differ) =
     let f = entry_in given entries are one c in
     let g = entry_in given entries are other d in (
@@ -92,17 +109,22 @@ clash_at given entries are e (one, other, c, d, a, b, k, differ) =
     (one.given, other.given, given_in given entries are one c, given_in given entries are other d, a, b, k, differ)
 
 -- no owner is mixed
-pub unmixed_of : (given : List Record) (entries : List Given) → AreGivens given entries → IsFirstMixed entries None → (one other : Record) → Contains given one → Contains given other → one.kind ≡ cname → AreSame one.owner other.owner → AreRepeats one other
+pub unmixed_of : (given : List Record) (entries : List Given) → AreGivens given entries → IsFirstMixed entries None
+    → (one other : Record) → Contains given one → Contains given other → one.kind ≡ cname
+    → AreSame one.owner other.owner → AreRepeats one other
 unmixed_of given entries are none one other c d k same = decided (repeats_or_not one other)
   where
     decided : Either (AreRepeats one other) → AreRepeats one other
     decided (inl r) = r
     decided (inr differ) =
         let e = entry_in given entries are one c in
-        absurd (none e.0 e.1 (mixed_at given entries are e.0 one.owner (ap (λ (r : Record). folded_labels r.owner) e.2) (one, other, c, d, refl, sym same, k, differ)))
+        absurd (none e.0 e.1 (mixed_at given entries are e.0 one.owner (ap (λ (r : Record). folded_labels r.owner) e.2)
+        (one, other, c, d, refl, sym same, k, differ)))
 
 -- the first record whose owner is mixed
-pub mixed_first : (given : List Record) (entries : List Given) (place : ℕ) (x : Record) → AreGivens given entries → IsFirstMixed entries (Some place) → place < length given → x ≡ get_or given place x → IsFirst (λ r. Clashes given r.owner) given place x
+pub mixed_first : (given : List Record) (entries : List Given) (place : ℕ) (x : Record) → AreGivens given entries
+    → IsFirstMixed entries (Some place) → place < length given → x ≡ get_or given place x
+    → IsFirst (λ r. Clashes given r.owner) given place x
 mixed_first given entries place x are (found, least) within is =
     let p = are.each found.0 found.1 in
     let there : get_or given place found.0.given ≡ found.0.given = subst (λ k. get_or given k found.0.given ≡ found.0.given) found.3 p.1 in
@@ -111,7 +133,8 @@ mixed_first given entries place x are (found, least) within is =
     (λ y (k, l, at) clash.
     let lt : k < place = omega (arith, l, length-take place given) in
     let at' : get_or given k y ≡ y = sym (get_or-take place given k y lt) ∙ at in
-    let low : place ≤ k = least (record { place = k; given = y }) (are.all k y (omega arith) at') (mixed_at given entries are (record { place = k; given = y }) y.owner refl clash) in
+    let low : place ≤ k = least (record { place = k; given = y }) (are.all k y (omega arith) at')
+    (mixed_at given entries are (record { place = k; given = y }) y.owner refl clash) in
     absurd (omega (arith, low, lt)))
     (subst (λ (r : Record). Clashes given r.owner) same (clash_at given entries are found.0 found.2))
 
@@ -119,7 +142,8 @@ pub mixed_within : (given : List Record) (entries : List Given) (place : ℕ) �
 mixed_within given entries place are (found, least) = subst (λ k. k < length given) found.3 (are.each found.0 found.1).0
 
 -- what is kept of entries is kept of given records
-kept_of : (given : List Record) (entries : List Given) (e : Given) (kept : Record) → AreGivens given entries → IsKeptOf entries e kept → IsKept given e.given kept
+kept_of : (given : List Record) (entries : List Given) (e : Given) (kept : Record) → AreGivens given entries
+    → IsKeptOf entries e kept → IsKept given e.given kept
 kept_of given entries e kept are (ttl, least, copy, first) = record {
   owner = copy.owner;
   kind = copy.kind;
@@ -137,7 +161,8 @@ kept_of given entries e kept are (ttl, least, copy, first) = record {
 }
 
 -- the first of the entries that are repeats is the first of the records that are
-first_repeat : (given : List Record) (entries : List Given) (e : Given) (kept : Record) → AreGivens given entries → Contains entries e → IsEarliest entries e → AreRepeats e.given kept → IsFirstRepeat given kept e.given
+first_repeat : (given : List Record) (entries : List Given) (e : Given) (kept : Record) → AreGivens given entries
+    → Contains entries e → IsEarliest entries e → AreRepeats e.given kept → IsFirstRepeat given kept e.given
 first_repeat given entries e kept are c first same =
     let p = are.each e c in (
       e.place,
@@ -149,7 +174,8 @@ first_repeat given entries e kept are c first same =
           absurd (omega (arith, low, lt))) (alike_sym Whole e.given kept same),
     )
 
-kept_first : (given : List Record) (entries : List Given) (e : Given) (kept : Record) → AreGivens given entries → Contains entries e → IsKeptOf entries e kept → IsFirstRepeat given kept e.given
+kept_first : (given : List Record) (entries : List Given) (e : Given) (kept : Record) → AreGivens given entries
+    → Contains entries e → IsKeptOf entries e kept → IsFirstRepeat given kept e.given
 kept_first given entries e kept are c (ttl, least, copy, first) =
     first_repeat given entries e kept are c first (kept_repeats entries e kept (ttl, least, copy, first))
 
@@ -175,7 +201,10 @@ pub record IsParted (given : List Record) (start : Record) (others : List Record
   pub none : AllByRecursion (λ one. one.kind ≢ soa) others
   pub rising : IsRising others
 
-parted : (given : List Record) (entries : List Given) (first others : List Record) → AreGivens given entries → HasSoa given → HasOneStart given → AreMerged (IsAtStart true) (IsKeptOf entries) entries first → AreMerged (IsAtStart false) (IsKeptOf entries) entries others → (start : Record) × (first ≡ start ∷ []) × IsParted given start others
+parted : (given : List Record) (entries : List Given) (first others : List Record) → AreGivens given entries
+    → HasSoa given → HasOneStart given → AreMerged (IsAtStart true) (IsKeptOf entries) entries first
+    → AreMerged (IsAtStart false) (IsKeptOf entries) entries others
+    → (start : Record) × (first ≡ start ∷ []) × IsParted given start others
 parted given entries [] others are (one, c, k) only a b =
     let e = entry_in given entries are one c in
     let f = a.each e.0 e.1 (starts e.0.given.kind (ap (λ (r : Record). r.kind) e.2 ∙ k)) in
@@ -194,11 +223,19 @@ parted given entries (start ∷ []) others are has only a b =
 parted given entries (start ∷ next ∷ more) others are has only a b =
     let f = a.from start (Contains-head start (next ∷ more)) in
     let g = a.from next (Contains-after start (next ∷ more) next (Contains-head next more)) in
-    let same = only f.0.given g.0.given (given_in given entries are f.0 f.1) (given_in given entries are g.0 g.1) (at_start f.0.given.kind f.2) (at_start g.0.given.kind g.2) in
-    absurd (one_rising start next more a.rising (alike_trans Whole start f.0.given next (alike_sym Whole f.0.given start (kept_repeats entries f.0 start f.3)) (alike_trans Whole f.0.given g.0.given next same (kept_repeats entries g.0 next g.3))))
+    let same = only f.0.given g.0.given (given_in given entries are f.0 f.1) (given_in given entries are g.0 g.1)
+    (at_start f.0.given.kind f.2) (at_start g.0.given.kind g.2) in
+    absurd (one_rising start next more a.rising
+    (alike_trans Whole start f.0.given next (alike_sym Whole f.0.given start (kept_repeats entries f.0 start f.3))
+    (alike_trans Whole f.0.given g.0.given next same (kept_repeats entries g.0 next g.3))))
 
 -- the zone of the kept records is the one that the given records make
-pub built_of : (given : List Record) (entries : List Given) (apex : Labels) (first others : List Record) → AreGivens given entries → HasSoa given → HasOneStart given → ((one : Record) → Contains given one → one.kind ≡ soa → apex ≡ folded_labels one.owner) → AreMerged (IsAtStart true) (IsKeptOf entries) entries first → AreMerged (IsAtStart false) (IsKeptOf entries) entries others → IsBuilt given (record { apex = apex; records = first ++ others })
+pub built_of : (given : List Record) (entries : List Given) (apex : Labels) (first others : List Record)
+    → AreGivens given entries → HasSoa given → HasOneStart given
+    → ((one : Record) → Contains given one → one.kind ≡ soa → apex ≡ folded_labels one.owner)
+    → AreMerged (IsAtStart true) (IsKeptOf entries) entries first
+    → AreMerged (IsAtStart false) (IsKeptOf entries) entries others
+    → IsBuilt given (record { apex = apex; records = first ++ others })
 built_of given entries apex first others are has only is a b = record {
   apex = is;
   kept = λ kept c. elim (Contains-append_cases first others kept c) [
@@ -221,7 +258,8 @@ built_of given entries apex first others are has only is a b = record {
 }
 
 -- a record of a built zone is kept of a given one
-kept_from : (given : List Record) (zone : Zone) → IsBuilt given zone → (kept : Record) → Contains zone.records kept → (one : Record) × Contains given one × IsKept given one kept
+kept_from : (given : List Record) (zone : Zone) → IsBuilt given zone → (kept : Record) → Contains zone.records kept
+    → (one : Record) × Contains given one × IsKept given one kept
 kept_from given zone built kept c =
     let f = built.kept kept c in
     (f.0, first_in (AreRepeats kept) given f.1.0 f.0 f.1.1, f.2)
@@ -229,7 +267,9 @@ kept_from given zone built kept c =
 -- two records of one set of a built zone have one TTL
 one_ttl : (given : List Record) (one other kept kept' : Record) → IsKept given one kept → IsKept given other kept' → AreOneSet kept kept' → kept.ttl ≡ kept'.ttl
 one_ttl given one other kept kept' k l same =
-    let owners : AreSame one.owner other.owner = same_folded one.owner ∙ ap folded_labels (sym k.owner) ∙ same.0 ∙ ap folded_labels l.owner ∙ sym (same_folded other.owner) in
+    let owners : AreSame one.owner other.owner =
+    same_folded one.owner ∙ ap folded_labels (sym k.owner) ∙ same.0 ∙ ap folded_labels l.owner
+    ∙ sym (same_folded other.owner) in
     let kinds : one.kind ≡ other.kind = sym k.kind ∙ same.1 ∙ l.kind in
     let a = k.ttl.some in
     let b = l.ttl.some in
@@ -243,7 +283,9 @@ not_more : (n : ℕ) → ¬ (60_000 < n) → n ≤ 60_000
 not_more n not = grind arith
 
 -- a built zone of records without faults is valid
-pub valid_of : (given : List Record) (zone : Zone) → ((one : Record) → Contains given one → IsPlain one) → AreUnmixed given → IsBuilt given zone → ((one : Record) → Contains zone.records one → ¬ IsLarge zone.records one) → ((one : Record) → Contains given one → ¬ IsWildcardCut one) → IsValid zone
+pub valid_of : (given : List Record) (zone : Zone) → ((one : Record) → Contains given one → IsPlain one)
+    → AreUnmixed given → IsBuilt given zone → ((one : Record) → Contains zone.records one → ¬ IsLarge zone.records one)
+    → ((one : Record) → Contains given one → ¬ IsWildcardCut one) → IsValid zone
 valid_of given zone plain free built small cuts = record {
   plain = λ kept c.
       let f = kept_from given zone built kept c in
@@ -255,7 +297,8 @@ valid_of given zone plain free built small cuts = record {
   folded = λ kept c. let f = kept_from given zone built kept c in ap folded_labels f.2.owner ∙ sym (same_folded f.0.owner) ∙ sym f.2.owner;
   inside = λ kept c.
       let f = kept_from given zone built kept c in
-      below_same_name f.0.owner kept.owner zone.apex (same_folded f.0.owner ∙ ap folded_labels (sym f.2.owner)) (of_inside given zone.apex free.inside.some built.apex f.0 (free.inside.inside f.0 f.1));
+      below_same_name f.0.owner kept.owner zone.apex (same_folded f.0.owner ∙ ap folded_labels (sym f.2.owner))
+      (of_inside given zone.apex free.inside.some built.apex f.0 (free.inside.inside f.0 f.1));
   ttl = λ one other c d same.
       let f = kept_from given zone built one c in
       let g = kept_from given zone built other d in
@@ -263,7 +306,9 @@ valid_of given zone plain free built small cuts = record {
   alias = λ one other c d k same.
       let f = kept_from given zone built one c in
       let g = kept_from given zone built other d in
-      let owners : AreSame f.0.owner g.0.owner = same_folded f.0.owner ∙ ap folded_labels (sym f.2.owner) ∙ same ∙ ap folded_labels g.2.owner ∙ sym (same_folded g.0.owner) in
+      let owners : AreSame f.0.owner g.0.owner =
+      same_folded f.0.owner ∙ ap folded_labels (sym f.2.owner) ∙ same ∙ ap folded_labels g.2.owner
+      ∙ sym (same_folded g.0.owner) in
       let r = free.unmixed f.0 g.0 f.1 g.1 (sym f.2.kind ∙ k) owners in
       ((same, f.2.kind ∙ r.0.1 ∙ sym g.2.kind), ap rdata_of f.2.content ∙ r.1 ∙ ap rdata_of (sym g.2.content));
   cuts = λ kept c k wild.
@@ -272,9 +317,13 @@ valid_of given zone plain free built small cuts = record {
   small = λ owner kind set s. light zone.records owner kind set small s;
 }
   where
-    light : (records : List Record) (owner : Labels) (kind : ℕ) (set : List Record) → ((one : Record) → Contains records one → ¬ IsLarge records one) → IsSet records owner kind set → weight set ≤ 60_000
+    light : (records : List Record) (owner : Labels) (kind : ℕ) (set : List Record)
+        → ((one : Record) → Contains records one → ¬ IsLarge records one) → IsSet records owner kind set
+        → weight set ≤ 60_000
     light records owner kind [] none s = omega arith
     light records owner kind (x ∷ set) none s =
-        let here : Contains records x = subst (λ l. Contains l x) (sym s.parts) (Contains-append_right s.before ((x ∷ set) ++ s.after) x (Contains-head x (set ++ s.after))) in
+        let here : Contains records x =
+        subst (λ l. Contains l x) (sym s.parts)
+        (Contains-append_right s.before ((x ∷ set) ++ s.after) x (Contains-head x (set ++ s.after))) in
         let not : ¬ (60_000 < weight (x ∷ set)) = λ l. none x here (x ∷ set, set_same_name records owner kind x (x ∷ set) s.each.0 s, l) in
         not_more (weight (x ∷ set)) not

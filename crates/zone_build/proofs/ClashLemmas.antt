@@ -29,8 +29,15 @@ mixed_of all n run more (e, c, alias) =
     let last = last_in all n more in
     elim (part_of n all e c) [
       | inl front ↦ (e, last.0, c, drop_in n all last.0 last.1, alias, later_apart Whole e.given last.0.given (run.later e last.0 front last.1))
-      | inr back ↦
-          (e, first.0, c, take_in n all first.0 first.1, alias, λ a. later_apart Whole first.0.given e.given (run.later first.0 e first.1 back) (alike_sym Whole e.given first.0.given a))
+      | inr back ↦ (
+        e,
+        first.0,
+        c,
+        take_in n all first.0 first.1,
+        alias,
+        λ a. later_apart Whole first.0.given e.given (run.later first.0 e first.1 back)
+            (alike_sym Whole e.given first.0.given a),
+      )
     ]
 
 -- all are repeats
@@ -55,14 +62,21 @@ pub record IsMixing (all : List Given) (at : ℕ) (first : Option ℕ) : Type 0 
 pub mixing_none : (all : List Given) → IsMixing all 0 None
 mixing_none all = record { apart = λ d c. inl c; so_far = λ e c m. c }
 
-apart_more : (all rest : List Given) (n : ℕ) → IsRun Owner rest n → ((d : Given) → Contains all d → Contains rest d ⊎ ((e : Given) → Contains rest e → key_order Owner d.given e.given ≡ Less)) → (d : Given) → Contains all d → Contains (drop n rest) d ⊎ ((e : Given) → Contains (drop n rest) e → key_order Owner d.given e.given ≡ Less)
+apart_more : (all rest : List Given) (n : ℕ) → IsRun Owner rest n
+    → ((d : Given) → Contains all d
+    → Contains rest d ⊎ ((e : Given) → Contains rest e → key_order Owner d.given e.given ≡ Less)) → (d : Given)
+    → Contains all d → Contains (drop n rest) d
+    ⊎ ((e : Given) → Contains (drop n rest) e → key_order Owner d.given e.given ≡ Less)
 apart_more all rest n run apart d c = elim (apart d c) [
   | inl there ↦ elim (part_of n rest d there) [ inl front ↦ inr (λ e k. run.later d e front k) | inr back ↦ inl back ]
   | inr gone ↦ inr (λ e k. gone e (drop_in n rest e k))
 ]
 
 -- all records of an owner stand in its run
-whole_owner : (all rest : List Given) (n : ℕ) (e d : Given) → IsRun Owner rest n → ((d : Given) → Contains all d → Contains rest d ⊎ ((e : Given) → Contains rest e → key_order Owner d.given e.given ≡ Less)) → Contains (take n rest) e → Contains all d → AreSame d.given.owner e.given.owner → Contains (take n rest) d
+whole_owner : (all rest : List Given) (n : ℕ) (e d : Given) → IsRun Owner rest n
+    → ((d : Given) → Contains all d
+    → Contains rest d ⊎ ((e : Given) → Contains rest e → key_order Owner d.given e.given ≡ Less))
+    → Contains (take n rest) e → Contains all d → AreSame d.given.owner e.given.owner → Contains (take n rest) d
 whole_owner all rest n e d run apart c k same = elim (apart d k) [
   | inl there ↦ elim (part_of n rest d there) [
     | inl front ↦ front
@@ -72,16 +86,23 @@ whole_owner all rest n e d run apart c k same = elim (apart d k) [
 ]
 
 -- a mixed owner's run is mixed
-mixed_part : (all rest : List Given) (n : ℕ) (e : Given) → IsRun Owner rest n → ((d : Given) → Contains all d → Contains rest d ⊎ ((e : Given) → Contains rest e → key_order Owner d.given e.given ≡ Less)) → Contains (take n rest) e → IsMixedAt all e → AreMixed (take n rest)
+mixed_part : (all rest : List Given) (n : ℕ) (e : Given) → IsRun Owner rest n
+    → ((d : Given) → Contains all d
+    → Contains rest d ⊎ ((e : Given) → Contains rest e → key_order Owner d.given e.given ≡ Less))
+    → Contains (take n rest) e → IsMixedAt all e → AreMixed (take n rest)
 mixed_part all rest n e run apart c (one, other, k, l, same, same', alias, differ) =
     (one, other, whole_owner all rest n e one run apart c k same, whole_owner all rest n e other run apart c l same', alias, differ)
 
 -- and each record of a mixed run has a mixed owner
-part_mixed : (all rest : List Given) (n : ℕ) (e : Given) → ((d : Given) → Contains rest d → Contains all d) → IsRun Owner rest n → Contains (take n rest) e → AreMixed (take n rest) → IsMixedAt all e
+part_mixed : (all rest : List Given) (n : ℕ) (e : Given) → ((d : Given) → Contains rest d → Contains all d)
+    → IsRun Owner rest n → Contains (take n rest) e → AreMixed (take n rest) → IsMixedAt all e
 part_mixed all rest n e among run c (one, other, k, l, alias, differ) =
     (one, other, among one (take_in n rest one k), among other (take_in n rest other l), run.here one e k c, run.here other e l c, alias, differ)
 
-first_passed : (all rest : List Given) (n : ℕ) (first : Option ℕ) → IsRun Owner rest n → ((d : Given) → Contains all d → Contains rest d ⊎ ((e : Given) → Contains rest e → key_order Owner d.given e.given ≡ Less)) → ¬ AreMixed (take n rest) → IsFirstSoFar all rest first → IsFirstSoFar all (drop n rest) first
+first_passed : (all rest : List Given) (n : ℕ) (first : Option ℕ) → IsRun Owner rest n
+    → ((d : Given) → Contains all d
+    → Contains rest d ⊎ ((e : Given) → Contains rest e → key_order Owner d.given e.given ≡ Less))
+    → ¬ AreMixed (take n rest) → IsFirstSoFar all rest first → IsFirstSoFar all (drop n rest) first
 first_passed all rest n None run apart not so_far = λ e c m. elim (part_of n rest e (so_far e c m)) [
   | inl front ↦ absurd (not (mixed_part all rest n e run apart front m))
   | inr back ↦ back
@@ -100,7 +121,10 @@ first_passed all rest n (Some place) run apart not so_far = (
 least_cases : (known place : ℕ) → ((least_of (Some known) place ≡ known) × (known ≤ place)) ⊎ ((least_of (Some known) place ≡ place) × (place ≤ known))
 least_cases known place = grind (arith, nat_tests)
 
-first_met : (all rest : List Given) (n : ℕ) (first : Option ℕ) (place : ℕ) → ((d : Given) → Contains rest d → Contains all d) → IsRun Owner rest n → AreMixed (take n rest) → IsLeastPlace (take n rest) place → IsFirstSoFar all rest first → IsFirstSoFar all (drop n rest) (Some (least_of first place))
+first_met : (all rest : List Given) (n : ℕ) (first : Option ℕ) (place : ℕ)
+    → ((d : Given) → Contains rest d → Contains all d) → IsRun Owner rest n → AreMixed (take n rest)
+    → IsLeastPlace (take n rest) place → IsFirstSoFar all rest first
+    → IsFirstSoFar all (drop n rest) (Some (least_of first place))
 first_met all rest n None place among run mixed least so_far = (
   (least.some.0, among least.some.0 (take_in n rest least.some.0 least.some.1), part_mixed all rest n least.some.0 among run least.some.1 mixed, least.some.2),
   λ e c m. elim (part_of n rest e (so_far e c m)) [ inl front ↦ inr (least.least e front) | inr back ↦ inl back ],
@@ -117,7 +141,12 @@ first_met all rest n (Some known) place among run mixed least so_far = elim (lea
     ],
   )
   | inr new ↦ (
-    (least.some.0, among least.some.0 (take_in n rest least.some.0 least.some.1), part_mixed all rest n least.some.0 among run least.some.1 mixed, least.some.2 ∙ sym new.0),
+    (
+      least.some.0,
+      among least.some.0 (take_in n rest least.some.0 least.some.1),
+      part_mixed all rest n least.some.0 among run least.some.1 mixed,
+      least.some.2 ∙ sym new.0,
+    ),
     λ e c m. elim (so_far.1 e c m) [
       | inl there ↦ elim (part_of n rest e there) [
         | inl front ↦ let l = least.least e front in let p = new.0 in inr (omega (arith, l, p))
@@ -129,19 +158,29 @@ first_met all rest n (Some known) place among run mixed least so_far = elim (lea
 ]
 
 -- one owner is passed over
-pub mixing_passed : (all part : List Given) (at n : ℕ) (first : Option ℕ) → IsMixing all at first → IsRun Owner (drop at all) n → part ≡ take n (drop at all) → ¬ AreMixed part → IsMixing all (at + n) first
+pub mixing_passed : (all part : List Given) (at n : ℕ) (first : Option ℕ) → IsMixing all at first
+    → IsRun Owner (drop at all) n → part ≡ take n (drop at all) → ¬ AreMixed part → IsMixing all (at + n) first
 mixing_passed all part at n first m run cut not = record {
-  apart = let P : List Given → Type 0 = λ l. (d : Given) → Contains all d → Contains l d ⊎ ((e : Given) → Contains l e → key_order Owner d.given e.given ≡ Less) in
+  apart = let P : List Given → Type 0 =
+      λ l. (d : Given) → Contains all d
+      → Contains l d ⊎ ((e : Given) → Contains l e → key_order Owner d.given e.given ≡ Less) in
       subst P (drop-drop n at all) (apart_more all (drop at all) n run m.apart);
-  so_far = subst (λ l. IsFirstSoFar all l first) (drop-drop n at all) (first_passed all (drop at all) n first run m.apart (subst (λ l. ¬ AreMixed l) cut not) m.so_far);
+  so_far = subst (λ l. IsFirstSoFar all l first) (drop-drop n at all)
+      (first_passed all (drop at all) n first run m.apart (subst (λ l. ¬ AreMixed l) cut not) m.so_far);
 }
 
 -- one owner is met that is mixed
-pub mixing_met : (all part : List Given) (at n : ℕ) (first : Option ℕ) (place : ℕ) → IsMixing all at first → IsRun Owner (drop at all) n → part ≡ take n (drop at all) → AreMixed part → IsLeastPlace part place → IsMixing all (at + n) (Some (least_of first place))
+pub mixing_met : (all part : List Given) (at n : ℕ) (first : Option ℕ) (place : ℕ) → IsMixing all at first
+    → IsRun Owner (drop at all) n → part ≡ take n (drop at all) → AreMixed part → IsLeastPlace part place
+    → IsMixing all (at + n) (Some (least_of first place))
 mixing_met all part at n first place m run cut mixed least = record {
-  apart = let P : List Given → Type 0 = λ l. (d : Given) → Contains all d → Contains l d ⊎ ((e : Given) → Contains l e → key_order Owner d.given e.given ≡ Less) in
+  apart = let P : List Given → Type 0 =
+      λ l. (d : Given) → Contains all d
+      → Contains l d ⊎ ((e : Given) → Contains l e → key_order Owner d.given e.given ≡ Less) in
       subst P (drop-drop n at all) (apart_more all (drop at all) n run m.apart);
-  so_far = subst (λ l. IsFirstSoFar all l (Some (least_of first place))) (drop-drop n at all) (first_met all (drop at all) n first place (λ d c. drop_in at all d c) run (subst AreMixed cut mixed) (subst (λ l. IsLeastPlace l place) cut least) m.so_far);
+  so_far = subst (λ l. IsFirstSoFar all l (Some (least_of first place))) (drop-drop n at all)
+      (first_met all (drop at all) n first place (λ d c. drop_in at all d c) run (subst AreMixed cut mixed)
+      (subst (λ l. IsLeastPlace l place) cut least) m.so_far);
 }
 
 pub mixing_all : (all : List Given) (at : ℕ) (first : Option ℕ) → length all ≤ at → IsMixing all at first → IsFirstMixed all first

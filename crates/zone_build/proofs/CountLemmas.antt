@@ -11,6 +11,9 @@ counts_in [] o = omega arith
 counts_in (p ∷ items) o = omega (arith, counts_in items o)
 
 -- one more record is counted
-pub count_in_more : (records : List Record) (i : ℕ) (x : Record) (n : ℕ) → i < length records → x ≡ get_or records i x → n ≡ rules_and_aliases_in (map owned_of (take i records)) → n + holds_one (owned_of x).item ≡ rules_and_aliases_in (map owned_of (take (i + 1) records))
+pub count_in_more : (records : List Record) (i : ℕ) (x : Record) (n : ℕ) → i < length records → x ≡ get_or records i x
+    → n ≡ rules_and_aliases_in (map owned_of (take i records))
+    → n + holds_one (owned_of x).item ≡ rules_and_aliases_in (map owned_of (take (i + 1) records))
 count_in_more records i x n within is h =
-    ap (λ m. m + holds_one (owned_of x).item) h ∙ sym (counts_in (map owned_of (take i records)) (owned_of x)) ∙ ap rules_and_aliases_in (sym (next_of owned_of records i x within is))
+    ap (λ m. m + holds_one (owned_of x).item) h ∙ sym (counts_in (map owned_of (take i records)) (owned_of x))
+    ∙ ap rules_and_aliases_in (sym (next_of owned_of records i x within is))

@@ -12,7 +12,8 @@ use Rattle.zone_build.specs.Zone.{AreRepeats, IsWildcard}
 pub repeats_or_not : (one other : Record) → Either (AreRepeats one other)
 repeats_or_not one other = all (same_or_not one.owner other.owner) (numbers one.kind other.kind) (lists numbers (rdata_of one.content) (rdata_of other.content))
   where
-    all : Either (AreSame one.owner other.owner) → Either (one.kind ≡ other.kind) → Either (rdata_of one.content ≡ rdata_of other.content) → Either (AreRepeats one other)
+    all : Either (AreSame one.owner other.owner) → Either (one.kind ≡ other.kind)
+        → Either (rdata_of one.content ≡ rdata_of other.content) → Either (AreRepeats one other)
     all (inl a) (inl b) (inl c) = inl ((a, b), c)
     all (inr a) b c = inr (λ r. a r.0.0)
     all (inl a) (inr b) c = inr (λ r. b r.0.1)

@@ -27,37 +27,50 @@ start_fault given entries fault.Memory are h = absurd h
 is_apex : (given : List Record) (entries : List Given) (apex : Labels) → AreGivens given entries → IsEntryApex entries apex → IsApex given apex
 is_apex given entries apex are (start, c, k, is, all) = apex_of given entries start apex are c k is (one_start given entries start are all)
 
-pub outside_fault : (given : List Record) (entries : List Given) (apex : Labels) (place : ℕ) → AreGivens given entries → IsEntryApex entries apex → (one : Record) × IsFirst (λ r. ¬ IsBelow r.owner apex) given place one → IsZoneFault given (fault.OutOfZone place)
+pub outside_fault : (given : List Record) (entries : List Given) (apex : Labels) (place : ℕ) → AreGivens given entries
+    → IsEntryApex entries apex → (one : Record) × IsFirst (λ r. ¬ IsBelow r.owner apex) given place one
+    → IsZoneFault given (fault.OutOfZone place)
 outside_fault given entries apex place are e (one, f) =
     let has = has_start given entries e.0 are e.1 e.2 in
     (has, one_start given entries e.0 are e.4, (one, outside_first given apex place one has (is_apex given entries apex are e) f))
 
-pub all_inside : (given : List Record) (entries : List Given) (apex : Labels) → AreGivens given entries → IsEntryApex entries apex → ((one : Record) → Contains given one → IsBelow one.owner apex) → AreInside given
+pub all_inside : (given : List Record) (entries : List Given) (apex : Labels) → AreGivens given entries
+    → IsEntryApex entries apex → ((one : Record) → Contains given one → IsBelow one.owner apex) → AreInside given
 all_inside given entries apex are e below = record {
   some = has_start given entries e.0 are e.1 e.2;
   one = one_start given entries e.0 are e.4;
   inside = λ one c. inside_of given apex (is_apex given entries apex are e) one (below one c);
 }
 
-pub mixed_fault : (given : List Record) (entries : List Given) (apex : Labels) (place : ℕ) (x : Record) (name : Labels) → AreGivens given entries → IsEntryApex entries apex → ((one : Record) → Contains given one → IsBelow one.owner apex) → IsFirstMixed entries (Some place) → place < length given → x ≡ get_or given place x → name ≡ folded_labels x.owner → IsZoneFault given (fault.AliasClash name)
+pub mixed_fault : (given : List Record) (entries : List Given) (apex : Labels) (place : ℕ) (x : Record) (name : Labels)
+    → AreGivens given entries → IsEntryApex entries apex
+    → ((one : Record) → Contains given one → IsBelow one.owner apex) → IsFirstMixed entries (Some place)
+    → place < length given → x ≡ get_or given place x → name ≡ folded_labels x.owner
+    → IsZoneFault given (fault.AliasClash name)
 mixed_fault given entries apex place x name are e below mixed within is named =
     (all_inside given entries apex are e below, (place, x, named, mixed_first given entries place x are mixed within is))
 
-pub unmixed_apex : (given : List Record) (entries : List Given) (apex : Labels) → AreGivens given entries → IsEntryApex entries apex → ((one : Record) → Contains given one → IsBelow one.owner apex) → IsFirstMixed entries None → AreUnmixed given × IsApex given apex
+pub unmixed_apex : (given : List Record) (entries : List Given) (apex : Labels) → AreGivens given entries
+    → IsEntryApex entries apex → ((one : Record) → Contains given one → IsBelow one.owner apex)
+    → IsFirstMixed entries None → AreUnmixed given × IsApex given apex
 unmixed_apex given entries apex are e below none =
     (record { inside = all_inside given entries apex are e below; unmixed = unmixed_of given entries are none }, is_apex given entries apex are e)
 
 -- the first large set of canonical records, by that of the SOA and that of the others
-pub large_at_start : (kept start : List Record) (place : ℕ) → IsCanonical kept → start ≡ take 1 kept → IsFirstLarge start (Some place) → IsFirstLarge kept (Some 0)
+pub large_at_start : (kept start : List Record) (place : ℕ) → IsCanonical kept → start ≡ take 1 kept
+    → IsFirstLarge start (Some place) → IsFirstLarge kept (Some 0)
 large_at_start [] start place c is f = absurd c
 large_at_start (a ∷ others) start place c is f = first_at_start a others place c (subst (λ l. IsFirstLarge l (Some place)) is f)
 
-pub large_after_start : (kept start others : List Record) (place : ℕ) → IsCanonical kept → start ≡ take 1 kept → others ≡ drop 1 kept → IsFirstLarge start None → IsFirstLarge others (Some place) → IsFirstLarge kept (Some (place + 1))
+pub large_after_start : (kept start others : List Record) (place : ℕ) → IsCanonical kept → start ≡ take 1 kept
+    → others ≡ drop 1 kept → IsFirstLarge start None → IsFirstLarge others (Some place)
+    → IsFirstLarge kept (Some (place + 1))
 large_after_start [] start others place c is is' none f = absurd c
 large_after_start (a ∷ rest) start others place c is is' none f =
     first_after a rest place c (subst (λ l. IsFirstLarge l None) is none) (subst (λ l. IsFirstLarge l (Some place)) is' f)
 
-pub large_nowhere : (kept start others : List Record) → IsCanonical kept → start ≡ take 1 kept → others ≡ drop 1 kept → IsFirstLarge start None → IsFirstLarge others None → IsFirstLarge kept None
+pub large_nowhere : (kept start others : List Record) → IsCanonical kept → start ≡ take 1 kept → others ≡ drop 1 kept
+    → IsFirstLarge start None → IsFirstLarge others None → IsFirstLarge kept None
 large_nowhere [] start others c is is' none f = absurd c
 large_nowhere (a ∷ rest) start others c is is' none f = none_at_all a rest c (subst (λ l. IsFirstLarge l None) is none) (subst (λ l. IsFirstLarge l None) is' f)
 
@@ -82,17 +95,21 @@ pub first_at : (P : Record → Type 0) (xs : List Record) (place : ℕ) (one x :
 first_at P xs place one x f is =
     at_middle f.before one f.after x (subst (λ n. x ≡ get_or (f.before ++ one ∷ f.after) n x) (sym f.at) (subst (λ l. x ≡ get_or l place x) f.parts is))
 
-pub large_last : (kept : List Record) (cut : Option Labels) (place : ℕ) (x : Record) → IsFirstLarge kept (Some place) → x ≡ get_or kept place x → IsLastFault kept cut (fault.SetTooLarge x.owner x.kind)
+pub large_last : (kept : List Record) (cut : Option Labels) (place : ℕ) (x : Record) → IsFirstLarge kept (Some place)
+    → x ≡ get_or kept place x → IsLastFault kept cut (fault.SetTooLarge x.owner x.kind)
 large_last kept cut place x (one, f) is =
     let same = first_at (IsLarge kept) kept place one x f is in
     (place, one, ap (λ (r : Record). r.owner) same, ap (λ (r : Record). r.kind) same, f)
 
-pub cut_at : (given : List Record) (place : ℕ) (x : Record) (name : Labels) → (one : Record) × IsFirst IsWildcardCut given place one → x ≡ get_or given place x → name ≡ folded_labels x.owner → IsFirstCut given (Some name)
+pub cut_at : (given : List Record) (place : ℕ) (x : Record) (name : Labels)
+    → (one : Record) × IsFirst IsWildcardCut given place one → x ≡ get_or given place x → name ≡ folded_labels x.owner
+    → IsFirstCut given (Some name)
 cut_at given place x name (one, f) is named =
     (place, one, named ∙ ap (λ (r : Record). folded_labels r.owner) (first_at IsWildcardCut given place one x f is), f)
 
 -- what is wrong with the records that are kept is what is wrong with the given ones
-pub last_is_fault : (given : List Record) (zone : Zone) (keeps : List Keep) (cut : Option Labels) (f : ZoneFault) → IsPlan given zone.apex keeps cut → IsBuilt given zone → IsLastFault zone.records cut f → IsZoneFault given f
+pub last_is_fault : (given : List Record) (zone : Zone) (keeps : List Keep) (cut : Option Labels) (f : ZoneFault)
+    → IsPlan given zone.apex keeps cut → IsBuilt given zone → IsLastFault zone.records cut f → IsZoneFault given f
 last_is_fault given zone keeps cut fault.NoSoa p built l = absurd l
 last_is_fault given zone keeps cut fault.TwoSoa p built l = absurd l
 last_is_fault given zone keeps cut (fault.OutOfZone place) p built l = absurd l
@@ -107,6 +124,8 @@ last_is_fault given zone keeps cut (fault.WildcardCut name) p built (small, is) 
 last_is_fault given zone keeps cut fault.Memory p built l = absurd l
 
 -- where nothing is wrong with them, they make a valid zone
-pub plan_valid : (given : List Record) (zone : Zone) (keeps : List Keep) (cut : Option Labels) → ((one : Record) → Contains given one → IsPlain one) → IsPlan given zone.apex keeps cut → IsBuilt given zone → IsFirstLarge zone.records None × (cut ≡ None) → IsValid zone
+pub plan_valid : (given : List Record) (zone : Zone) (keeps : List Keep) (cut : Option Labels)
+    → ((one : Record) → Contains given one → IsPlain one) → IsPlan given zone.apex keeps cut → IsBuilt given zone
+    → IsFirstLarge zone.records None × (cut ≡ None) → IsValid zone
 plan_valid given zone keeps cut plain p built (small, is) =
     valid_of given zone plain p.unmixed built small (subst (IsFirstCut given) is p.first_cut)

@@ -1,5 +1,7 @@
 -- The records at a name among records in canonical order.
-use Rattle.std.proofs.Common.{◌≡◌, ◌≢◌, ◌⊎◌, inl, inr, ℕ, zero, suc, ◌+◌, ◌-◌, ◌<◌, ◌≤◌, List, [], ◌∷◌, ◌++◌, length, take, drop, get_or, Option, Some, None, Bool, true, false, refl, sym, ap, subst, ◌∙◌, arith}
+use Rattle.std.proofs.Common.{◌≡◌, ◌≢◌, ◌⊎◌, inl, inr, ℕ, zero, suc, ◌+◌, ◌-◌, ◌<◌, ◌≤◌, List, [], ◌∷◌, ◌++◌, length}
+use Rattle.std.proofs.Common.{take, drop, get_or, Option, Some, None, Bool, true, false, refl, sym, ap, subst, ◌∙◌}
+use Rattle.std.proofs.Common.{arith}
 use Rattle.std.specs.Prelude.{Contains, IsTrue, ◌↔◌, nat_lt, is_some, IfSome, IfNone}
 use Rattle.std.specs.List.{AllByRecursion}
 use Rattle.std.specs.declared.cmp.Ordering.{Ordering}
@@ -90,13 +92,15 @@ rising_kinds (x ∷ xs) zero (suc k) r l m same =
     let less : order_of x f.0 ≡ Less = AllByRecursion-contains (λ (next : Record). order_of x next ≡ Less) xs f.0 r.0 f.1 in
     subst (λ n. x.kind ≤ n) (sym f.4) (kinds_of_two x f.0 less (same ∙ ap folded_labels f.3))
 
-canonical_kinds : (records : List Record) (j k : ℕ) → IsCanonical records → 0 < j → j < k → k < length records → AreSame (owner_at records j) (owner_at records k) → kind_at records j ≤ kind_at records k
+canonical_kinds : (records : List Record) (j k : ℕ) → IsCanonical records → 0 < j → j < k → k < length records
+    → AreSame (owner_at records j) (owner_at records k) → kind_at records j ≤ kind_at records k
 canonical_kinds [] j k c p l m same = absurd c
 canonical_kinds (x ∷ xs) zero k c p l m same = absurd (omega arith)
 canonical_kinds (x ∷ xs) (suc j) zero c p l m same = absurd (omega arith)
 canonical_kinds (x ∷ xs) (suc j) (suc k) c p l m same = rising_kinds xs j k c.2 (omega arith) (omega arith) same
 
-pub kinds_rise : (records : List Record) (places : Places) (j k : ℕ) → IsCanonical records → ArePlaces records places → places.first ≤ j → j ≤ k → k < places.end → kind_at records j ≤ kind_at records k
+pub kinds_rise : (records : List Record) (places : Places) (j k : ℕ) → IsCanonical records → ArePlaces records places
+    → places.first ≤ j → j ≤ k → k < places.end → kind_at records j ≤ kind_at records k
 kinds_rise records places j k c are from l to = elim (equal_or_after j k l) [
   | inl e ↦ omega (arith, ap (kind_at records) e)
   | inr less ↦
@@ -122,7 +126,9 @@ between_all records places kind are = record {
   not_less = λ k f l. absurd (omega arith);
 }
 
-pub between_upper : (records : List Record) (places : Places) (kind low high middle : ℕ) → IsCanonical records → ArePlaces records places → IsBetween records places kind low high → low ≤ middle → middle < high → kind_at records middle < kind → IsBetween records places kind (middle + 1) high
+pub between_upper : (records : List Record) (places : Places) (kind low high middle : ℕ) → IsCanonical records
+    → ArePlaces records places → IsBetween records places kind low high → low ≤ middle → middle < high
+    → kind_at records middle < kind → IsBetween records places kind (middle + 1) high
 between_upper records places kind low high middle c are b l m less = record {
   from = let f = b.from in omega arith;
   between = omega arith;
@@ -131,19 +137,23 @@ between_upper records places kind low high middle c are b l m less = record {
   not_less = b.not_less;
 }
 
-pub between_lower : (records : List Record) (places : Places) (kind low high middle : ℕ) → IsCanonical records → ArePlaces records places → IsBetween records places kind low high → low ≤ middle → middle < high → ¬ (kind_at records middle < kind) → IsBetween records places kind low middle
+pub between_lower : (records : List Record) (places : Places) (kind low high middle : ℕ) → IsCanonical records
+    → ArePlaces records places → IsBetween records places kind low high → low ≤ middle → middle < high
+    → ¬ (kind_at records middle < kind) → IsBetween records places kind low middle
 between_lower records places kind low high middle c are b l m not = record {
   from = b.from;
   between = l;
   to = let t = b.to in omega arith;
   less = b.less;
-  not_less = λ k f g. let p = b.from in let r = kinds_rise records places middle k c are (omega arith) f g in let h = not_less_least (kind_at records middle) kind not in omega arith;
+  not_less = λ k f g. let p = b.from in let r = kinds_rise records places middle k c are (omega arith) f g in let h =
+      not_less_least (kind_at records middle) kind not in omega arith;
 }
   where
     not_less_least : (n m : ℕ) → ¬ (n < m) → m ≤ n
     not_less_least n m not = grind arith
 
-pub between_none : (records : List Record) (places : Places) (kind low high : ℕ) → IsBetween records places kind low high → high ≤ low → IsKindStart records places kind low
+pub between_none : (records : List Record) (places : Places) (kind low high : ℕ)
+    → IsBetween records places kind low high → high ≤ low → IsKindStart records places kind low
 between_none records places kind low high b end = record {
   from = b.from;
   to = let t = b.to in let l = b.between in omega arith;
@@ -152,7 +162,8 @@ between_none records places kind low high b end = record {
 }
 
 -- where greater kinds begin is no earlier
-pub starts_in_order : (records : List Record) (places : Places) (kind from end : ℕ) → IsKindStart records places kind from → IsKindStart records places (kind + 1) end → from ≤ end
+pub starts_in_order : (records : List Record) (places : Places) (kind from end : ℕ)
+    → IsKindStart records places kind from → IsKindStart records places (kind + 1) end → from ≤ end
 starts_in_order records places kind from end f e = elim (before_or_from end from) [
   | inl h ↦
       let t = f.to in
@@ -164,11 +175,17 @@ starts_in_order records places kind from end f e = elim (before_or_from end from
 ]
 
 -- a set
-pub set_made : (records : List Record) (places : Places) (kind from end : ℕ) (set : List Record) → IsCanonical records → ArePlaces records places → kind ≢ soa → IsKindStart records places kind from → IsKindStart records places (kind + 1) end → set ≡ take (end - from) (drop from records) → IsSet records (owner_at records places.first) kind set
+pub set_made : (records : List Record) (places : Places) (kind from end : ℕ) (set : List Record) → IsCanonical records
+    → ArePlaces records places → kind ≢ soa → IsKindStart records places kind from
+    → IsKindStart records places (kind + 1) end → set ≡ take (end - from) (drop from records)
+    → IsSet records (owner_at records places.first) kind set
 set_made records places kind from end set c are other f e is = record {
   before = take from records;
   after = drop (end - from) (drop from records);
-  parts = sym (take-append-drop from records) ∙ ap (λ l. take from records ++ l) (sym (take-append-drop (end - from) (drop from records)) ∙ ap (λ l. l ++ drop (end - from) (drop from records)) (sym is));
+  parts = sym (take-append-drop from records)
+      ∙ ap (λ l. take from records ++ l)
+      (sym (take-append-drop (end - from) (drop from records))
+      ∙ ap (λ l. l ++ drop (end - from) (drop from records)) (sym is));
   each = subst (AllByRecursion (IsIn owner kind)) (sym is) (AllByRecursion-made (IsIn owner kind) (take (end - from) (drop from records)) (λ r k.
       let g = in_middle from (end - from) records r k in
       let low = g.1 in
@@ -207,22 +224,29 @@ set_made records places kind from end set c are other f e is = record {
     ]
 
 -- the set of a name that is the same
-pub set_renamed : (records : List Record) (one other : Labels) (kind : ℕ) (set : List Record) → AreSame one other → IsSet records one kind set → IsSet records other kind set
+pub set_renamed : (records : List Record) (one other : Labels) (kind : ℕ) (set : List Record) → AreSame one other
+    → IsSet records one kind set → IsSet records other kind set
 set_renamed records one other kind set same s = record {
   before = s.before;
   after = s.after;
   parts = s.parts;
   each = AllByRecursion-made (IsIn other kind) set (λ r c. let i = AllByRecursion-contains (IsIn one kind) set r s.each c in (i.0 ∙ same, i.1));
-  none_before = AllByRecursion-made (λ r. ¬ IsIn other kind r) s.before (λ r c i. AllByRecursion-contains (λ r. ¬ IsIn one kind r) s.before r s.none_before c (i.0 ∙ sym same, i.1));
-  none_after = AllByRecursion-made (λ r. ¬ IsIn other kind r) s.after (λ r c i. AllByRecursion-contains (λ r. ¬ IsIn one kind r) s.after r s.none_after c (i.0 ∙ sym same, i.1));
+  none_before = AllByRecursion-made (λ r. ¬ IsIn other kind r) s.before
+      (λ r c i. AllByRecursion-contains (λ r. ¬ IsIn one kind r) s.before r s.none_before c (i.0 ∙ sym same, i.1));
+  none_after = AllByRecursion-made (λ r. ¬ IsIn other kind r) s.after
+      (λ r c i. AllByRecursion-contains (λ r. ¬ IsIn one kind r) s.after r s.none_after c (i.0 ∙ sym same, i.1));
 }
 
 -- no record has that owner but the SOA
-pub owner_lacking : (records : List Record) (index : Indexed) (owner : Labels) → FindsOwners records index → NoneMeets At records owner (candidates index (key_of owner)) → (k : ℕ) → 0 < k → k < length records → ¬ AreSame (owner_at records k) owner
+pub owner_lacking : (records : List Record) (index : Indexed) (owner : Labels) → FindsOwners records index
+    → NoneMeets At records owner (candidates index (key_of owner)) → (k : ℕ) → 0 < k → k < length records
+    → ¬ AreSame (owner_at records k) owner
 owner_lacking records index owner finds none k p l same =
     finds.owners k p l (λ one c m. none one (subst (λ n. Contains (candidates index n) one) (same_keys (owner_at records k) owner same) c) (m ∙ same))
 
-pub set_lacking : (records : List Record) (index : Indexed) (owner : Labels) (kind : ℕ) (set : List Record) → IsCanonical records → FindsOwners records index → NoneMeets At records owner (candidates index (key_of owner)) → kind ≢ soa → set ≡ take 0 records → IsSet records owner kind set
+pub set_lacking : (records : List Record) (index : Indexed) (owner : Labels) (kind : ℕ) (set : List Record)
+    → IsCanonical records → FindsOwners records index → NoneMeets At records owner (candidates index (key_of owner))
+    → kind ≢ soa → set ≡ take 0 records → IsSet records owner kind set
 set_lacking records index owner kind set c finds none other is = record {
   before = [];
   after = records;
@@ -237,7 +261,8 @@ set_lacking records index owner kind set c finds none other is = record {
     at r (suc k) s i = owner_lacking records index owner finds none (suc k) (omega arith) s.within (ap folded_labels s.owner ∙ i.0)
 
 -- the SOA
-pub soa_set_here : (records : List Record) (owner : Labels) (set : List Record) → IsCanonical records → AreSame (owner_at records 0) owner → set ≡ take 1 records → IsSet records owner soa set
+pub soa_set_here : (records : List Record) (owner : Labels) (set : List Record) → IsCanonical records
+    → AreSame (owner_at records 0) owner → set ≡ take 1 records → IsSet records owner soa set
 soa_set_here [] owner set c same is = absurd c
 soa_set_here (x ∷ rest) owner set c same is = record {
   before = [];
@@ -248,7 +273,8 @@ soa_set_here (x ∷ rest) owner set c same is = record {
   none_after = AllByRecursion-made (λ r. ¬ IsIn owner soa r) rest (λ r k i. AllByRecursion-contains (λ (one : Record). one.kind ≢ soa) rest r c.1 k i.1);
 }
 
-pub soa_set_lacking : (records : List Record) (owner : Labels) (set : List Record) → IsCanonical records → ¬ AreSame (owner_at records 0) owner → set ≡ take 0 records → IsSet records owner soa set
+pub soa_set_lacking : (records : List Record) (owner : Labels) (set : List Record) → IsCanonical records
+    → ¬ AreSame (owner_at records 0) owner → set ≡ take 0 records → IsSet records owner soa set
 soa_set_lacking [] owner set c not is = absurd c
 soa_set_lacking (x ∷ rest) owner set c not is = record {
   before = [];
@@ -256,11 +282,17 @@ soa_set_lacking (x ∷ rest) owner set c not is = record {
   parts = ap (λ l. l ++ (x ∷ rest)) (sym is);
   each = subst (AllByRecursion (IsIn owner soa)) (sym is) tt;
   none_before = tt;
-  none_after = (λ i. not i.0, AllByRecursion-made (λ r. ¬ IsIn owner soa r) rest (λ r k i. AllByRecursion-contains (λ (one : Record). one.kind ≢ soa) rest r c.1 k i.1));
+  none_after = (
+    λ i. not i.0,
+    AllByRecursion-made (λ r. ¬ IsIn owner soa r) rest
+        (λ r k i. AllByRecursion-contains (λ (one : Record). one.kind ≢ soa) rest r c.1 k i.1),
+  );
 }
 
 -- the least kind at a name
-least_other : (records : List Record) (owner : Labels) (places : Places) → IsCanonical records → ArePlaces records places → AreSame (owner_at records places.first) owner → (r : Record) (k : ℕ) → 0 < k → StandsAt records r k → AreSame r.owner owner → kind_at records places.first ≤ r.kind
+least_other : (records : List Record) (owner : Labels) (places : Places) → IsCanonical records
+    → ArePlaces records places → AreSame (owner_at records places.first) owner → (r : Record) (k : ℕ) → 0 < k
+    → StandsAt records r k → AreSame r.owner owner → kind_at records places.first ≤ r.kind
 least_other records owner places c are same r k p s of = elim (before_or_from k places.first) [
   | inl h ↦ absurd (are.before k p h here)
   | inr h ↦ elim (before_or_from k places.end) [
@@ -275,7 +307,10 @@ least_other records owner places c are same r k p s of = elim (before_or_from k 
 least_cases : (kind : ℕ) → ((least_kind_with true kind ≡ kind) × (kind ≤ soa)) ⊎ ((least_kind_with true kind ≡ soa) × (soa ≤ kind))
 least_cases kind = grind (arith, nat_tests)
 
-pub least_at : (records : List Record) (owner : Labels) (places : Places) (is_apex : Bool) → IsCanonical records → ArePlaces records places → AreSame (owner_at records places.first) owner → (is_apex ≡ true → AreSame (owner_at records 0) owner) → (AreSame (owner_at records 0) owner → is_apex ≡ true) → IsLeastKindAt records owner (Some (least_kind_with is_apex (kind_at records places.first)))
+pub least_at : (records : List Record) (owner : Labels) (places : Places) (is_apex : Bool) → IsCanonical records
+    → ArePlaces records places → AreSame (owner_at records places.first) owner
+    → (is_apex ≡ true → AreSame (owner_at records 0) owner) → (AreSame (owner_at records 0) owner → is_apex ≡ true)
+    → IsLeastKindAt records owner (Some (least_kind_with is_apex (kind_at records places.first)))
 least_at records owner places false c are same apex not = (
   let s = are.some in
       let w = are.within in
@@ -313,7 +348,9 @@ least_at records owner places true c are same apex not = elim (least_cases (kind
       | inr start ↦ let p = start.0 in let q = start.1 in omega arith
     ]
 
-pub least_alone : (records : List Record) (index : Indexed) (owner : Labels) → IsCanonical records → FindsOwners records index → NoneMeets At records owner (candidates index (key_of owner)) → AreSame (owner_at records 0) owner → IsLeastKindAt records owner (Some soa)
+pub least_alone : (records : List Record) (index : Indexed) (owner : Labels) → IsCanonical records
+    → FindsOwners records index → NoneMeets At records owner (candidates index (key_of owner))
+    → AreSame (owner_at records 0) owner → IsLeastKindAt records owner (Some soa)
 least_alone records index owner c finds none same = (
   let w = (soa_first records c).0 in
       let f = record_at records 0 w in
@@ -325,7 +362,9 @@ least_alone records index owner c finds none same = (
     at r zero s of = let e = sym s.kind ∙ (soa_first records c).1 in omega arith
     at r (suc k) s of = absurd (owner_lacking records index owner finds none (suc k) (omega arith) s.within (ap folded_labels s.owner ∙ of))
 
-pub least_nowhere : (records : List Record) (index : Indexed) (owner : Labels) → FindsOwners records index → NoneMeets At records owner (candidates index (key_of owner)) → ¬ AreSame (owner_at records 0) owner → IsLeastKindAt records owner None
+pub least_nowhere : (records : List Record) (index : Indexed) (owner : Labels) → FindsOwners records index
+    → NoneMeets At records owner (candidates index (key_of owner)) → ¬ AreSame (owner_at records 0) owner
+    → IsLeastKindAt records owner None
 least_nowhere records index owner finds none not r k of = let g = stands records r k in at g.0 g.1
   where
     at : (k : ℕ) → StandsAt records r k → ⊥
@@ -333,14 +372,18 @@ least_nowhere records index owner finds none not r k of = let g = stands records
     at (suc k) s = owner_lacking records index owner finds none (suc k) (omega arith) s.within (ap folded_labels s.owner ∙ of)
 
 -- a record at or below a name
-pub below_met : (records : List Record) (places : Places) (name : Labels) → ArePlaces records places → IsBelow (owner_at records places.first) name → (one : Record) × Contains records one × IsBelow one.owner name
+pub below_met : (records : List Record) (places : Places) (name : Labels) → ArePlaces records places
+    → IsBelow (owner_at records places.first) name → (one : Record) × Contains records one × IsBelow one.owner name
 below_met records places name are below =
     let s = are.some in
     let w = are.within in
     let f = record_at records places.first (omega arith) in
     (f.0, f.1, subst (λ n. IsBelow n name) f.3 below)
 
-pub below_lacking : (records : List Record) (apex name : Labels) (index : Indexed) → IsIndex records apex index → owner_at records 0 ≡ apex → IsBelow name apex → ¬ AreSame name apex → NoneMeets Below records name (candidates index (key_of name)) → (one : Record) → Contains records one → ¬ IsBelow one.owner name
+pub below_lacking : (records : List Record) (apex name : Labels) (index : Indexed) → IsIndex records apex index
+    → owner_at records 0 ≡ apex → IsBelow name apex → ¬ AreSame name apex
+    → NoneMeets Below records name (candidates index (key_of name)) → (one : Record) → Contains records one
+    → ¬ IsBelow one.owner name
 below_lacking records apex name index is first inside not none one c below = let g = stands records one c in at g.0 g.1
   where
     at : (k : ℕ) → StandsAt records one k → ⊥
@@ -354,6 +397,16 @@ apex_first zone v =
     let r = record_at zone.records 0 f.0 in
     r.3 ∙ v.start r.0 r.1 (sym r.4 ∙ f.1)
 
-pub has_below_iff : (records : List Record) (apex name : Labels) (index : Indexed) (o : Option Places) (b : Bool) → IsIndex records apex index → owner_at records 0 ≡ apex → IsBelow name apex → ¬ AreSame name apex → b ≡ is_some o → IfSome o (λ one. Contains (candidates index (key_of name)) one) → IfSome o (λ one. IsBelow (owner_at records one.first) name) → IfNone o (NoneMeets Below records name (candidates index (key_of name))) → IsTrue b ↔ ((one : Record) × Contains records one × IsBelow one.owner name)
-has_below_iff records apex name index None b is first inside not e there meets none = (λ t. absurd (cc), λ (one, c, below). absurd (below_lacking records apex name index is first inside not none one c below))
-has_below_iff records apex name index (Some places) b is first inside not e there meets none = (λ t. below_met records places name (is.owners.places (key_of name) places there) meets, λ s. cc)
+pub has_below_iff : (records : List Record) (apex name : Labels) (index : Indexed) (o : Option Places) (b : Bool)
+    → IsIndex records apex index → owner_at records 0 ≡ apex → IsBelow name apex → ¬ AreSame name apex → b ≡ is_some o
+    → IfSome o (λ one. Contains (candidates index (key_of name)) one)
+    → IfSome o (λ one. IsBelow (owner_at records one.first) name)
+    → IfNone o (NoneMeets Below records name (candidates index (key_of name)))
+    → IsTrue b ↔ ((one : Record) × Contains records one × IsBelow one.owner name)
+has_below_iff records apex name index None b is first inside not e there meets none = (
+  λ t. absurd (cc),
+  λ (one, c, below). absurd
+      (below_lacking records apex name index is first inside not none one c below),
+)
+has_below_iff records apex name index (Some places) b is first inside not e there meets none =
+    (λ t. below_met records places name (is.owners.places (key_of name) places there) meets, λ s. cc)

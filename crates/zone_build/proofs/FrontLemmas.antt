@@ -91,7 +91,8 @@ front_less (suc more) xs ys small small' l =
     ]
 
 -- numbers that differ tell the order
-pub fronts_apart : (more : ℕ) (xs ys : List ℕ) (o : Ordering) → BytesBelow more xs → BytesBelow more ys → o ≡ nat_cmp (front_of more xs) (front_of more ys) → o ≢ Equal → o ≡ slice_cmp nat_cmp xs ys
+pub fronts_apart : (more : ℕ) (xs ys : List ℕ) (o : Ordering) → BytesBelow more xs → BytesBelow more ys
+    → o ≡ nat_cmp (front_of more xs) (front_of more ys) → o ≢ Equal → o ≡ slice_cmp nat_cmp xs ys
 fronts_apart more xs ys Less small small' is not = sym (front_less more xs ys small small' (ranked (front_of more xs) (front_of more ys) Less is))
 fronts_apart more xs ys Equal small small' is not = absurd (not refl)
 fronts_apart more xs ys Greater small small' is not =

@@ -1,5 +1,6 @@
 -- Parts of lists, and the least of some.
-use Rattle.std.proofs.Common.{◌≡◌, ◌⊎◌, inl, inr, ℕ, zero, suc, ◌+◌, ◌<◌, ◌≤◌, List, [], ◌∷◌, ◌++◌, length, take, drop, get_or, refl, sym, ap, subst, ◌∙◌, arith, map, append_assoc}
+use Rattle.std.proofs.Common.{◌≡◌, ◌⊎◌, inl, inr, ℕ, zero, suc, ◌+◌, ◌<◌, ◌≤◌, List, [], ◌∷◌, ◌++◌, length, take, drop}
+use Rattle.std.proofs.Common.{get_or, refl, sym, ap, subst, ◌∙◌, arith, map, append_assoc}
 use Rattle.std.specs.Prelude.{Contains, Bool, true, false}
 use mathlib.Core.Bool.{beq}
 use Rattle.std.specs.List.{AllByRecursion}
@@ -23,14 +24,22 @@ read_in xs i x within is = (i, within, sym is)
 -- one more element in its turn
 pub turn_of : {X : Type 0} (xs : List X) (i : ℕ) (x y : X) → i < length xs → x ≡ get_or xs i x → Contains (take (i + 1) xs) y → Contains (take i xs) y ⊎ (y ≡ x)
 turn_of xs i x y within is c =
-    elim (Contains-push_cases (take i xs) x y (subst (λ l. Contains l y) (take_more xs i x within ∙ ap (λ z. take i xs ++ z ∷ []) (sym is)) c)) [ inl old ↦ inl old | inr new ↦ inr (sym new) ]
+    elim (Contains-push_cases (take i xs) x y
+    (subst (λ l. Contains l y)
+    (take_more xs i x within ∙ ap (λ z. take i xs ++ z ∷ []) (sym is)) c)) [
+      | inl old ↦ inl old
+      | inr new ↦ inr
+          (sym new)
+    ]
 
 -- all elements have had their turn
 pub turned_all : {X : Type 0} (xs : List X) (i : ℕ) (x : X) → length xs ≤ i → Contains xs x → Contains (take i xs) x
 turned_all xs i x end c = subst (λ l. Contains l x) (sym (take_all i xs end)) c
 
 -- a bound of those before and of one more
-pub least_more : {X : Type 0} (f : X → ℕ) (xs : List X) (i : ℕ) (x : X) (least low : ℕ) → i < length xs → x ≡ get_or xs i x → ((y : X) → Contains (take i xs) y → least ≤ f y) → low ≤ least → low ≤ f x → (y : X) → Contains (take (i + 1) xs) y → low ≤ f y
+pub least_more : {X : Type 0} (f : X → ℕ) (xs : List X) (i : ℕ) (x : X) (least low : ℕ) → i < length xs
+    → x ≡ get_or xs i x → ((y : X) → Contains (take i xs) y → least ≤ f y) → low ≤ least → low ≤ f x → (y : X)
+    → Contains (take (i + 1) xs) y → low ≤ f y
 least_more f xs i x least low within is all h k y c =
     elim (turn_of xs i x y within is c) [
       | inl old ↦ let l = all y old in omega (arith, l)
@@ -63,11 +72,15 @@ other_bool false true e f = cc
 other_bool false false e f = cc
 
 -- one more element in its turn
-pub next_of : {X Y : Type 0} (f : X → Y) (xs : List X) (i : ℕ) (x : X) → i < length xs → x ≡ get_or xs i x → map f (take (i + 1) xs) ≡ map f (take i xs) ++ f x ∷ []
+pub next_of : {X Y : Type 0} (f : X → Y) (xs : List X) (i : ℕ) (x : X) → i < length xs → x ≡ get_or xs i x
+    → map f (take (i + 1) xs) ≡ map f (take i xs) ++ f x ∷ []
 next_of f xs i x within is =
     ap (map f) (take_more xs i x within ∙ ap (λ y. take i xs ++ y ∷ []) (sym is)) ∙ map-append f (take i xs) (x ∷ [])
 
 -- the list cut at an element
-pub cut_of : {X Y : Type 0} (f : X → Y) (xs : List X) (i : ℕ) (x : X) → i < length xs → x ≡ get_or xs i x → map f xs ≡ map f (take i xs) ++ f x ∷ map f (drop (i + 1) xs)
+pub cut_of : {X Y : Type 0} (f : X → Y) (xs : List X) (i : ℕ) (x : X) → i < length xs → x ≡ get_or xs i x
+    → map f xs ≡ map f (take i xs) ++ f x ∷ map f (drop (i + 1) xs)
 cut_of f xs i x within is =
-    ap (map f) (sym (take-append-drop (i + 1) xs)) ∙ map-append f (take (i + 1) xs) (drop (i + 1) xs) ∙ ap (λ l. l ++ map f (drop (i + 1) xs)) (next_of f xs i x within is) ∙ append_assoc (map f (take i xs)) (f x ∷ []) (map f (drop (i + 1) xs))
+    ap (map f) (sym (take-append-drop (i + 1) xs)) ∙ map-append f (take (i + 1) xs) (drop (i + 1) xs)
+    ∙ ap (λ l. l ++ map f (drop (i + 1) xs)) (next_of f xs i x within is)
+    ∙ append_assoc (map f (take i xs)) (f x ∷ []) (map f (drop (i + 1) xs))

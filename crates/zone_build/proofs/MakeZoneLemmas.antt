@@ -1,5 +1,6 @@
 -- Records make a valid zone or have a fault: the zone is made, record after record.
-use Rattle.std.proofs.Common.{◌≡◌, ◌≢◌, ◌⊎◌, inl, inr, ℕ, ◌<◌, ◌≤◌, List, [], ◌∷◌, ◌++◌, length, refl, sym, ap, subst, ◌∙◌, arith, append_assoc, append-nil, length-append}
+use Rattle.std.proofs.Common.{◌≡◌, ◌≢◌, ◌⊎◌, inl, inr, ℕ, ◌<◌, ◌≤◌, List, [], ◌∷◌, ◌++◌, length, refl, sym, ap, subst}
+use Rattle.std.proofs.Common.{◌∙◌, arith, append_assoc, append-nil, length-append}
 use Rattle.std.specs.Prelude.{Contains}
 use Rattle.std.specs.List.{AllByRecursion, flat_map}
 use Rattle.std.specs.declared.cmp.Ordering.TheVariants.{Less, Equal, Greater}
@@ -22,13 +23,16 @@ use Rattle.zone_build.specs.declared.fault.ZoneFault.{ZoneFault}
 use Rattle.zone_build.specs.declared.fault.ZoneFault.TheVariants as fault
 use Rattle.zone_build.specs.declared.key.Key.TheVariants.{Set, Whole}
 use Rattle.zone_build.proofs.ListLemmas.{AllByRecursion-contains, AllByRecursion-made, only_one}
-use Rattle.zone_build.proofs.OrderLemmas.{bytes_cmp, bytes_cmp-equal, nat_cmp-equal, then_equal, equal_then, order_of-total, key_order-total, key_not_after, alike_equal, alike_sym, alike_trans, less_not_after, three}
+use Rattle.zone_build.proofs.OrderLemmas.{bytes_cmp, bytes_cmp-equal, nat_cmp-equal, then_equal, equal_then}
+use Rattle.zone_build.proofs.OrderLemmas.{order_of-total, key_order-total, key_not_after, alike_equal, alike_sym}
+use Rattle.zone_build.proofs.OrderLemmas.{alike_trans, less_not_after, three}
 use Rattle.zone_build.proofs.StartLemmas.{first_in, first_same}
 use Rattle.zone_build.proofs.SizeLemmas.{one_set}
 use Rattle.zone_build.proofs.LargeLemmas.{tail_set}
 use Rattle.zone_build.proofs.BuildLemmas.{valid_of}
 use Rattle.zone_build.proofs.DecideLemmas.{repeats_or_not}
-use Rattle.zone_build.proofs.SomeZoneLemmas.{HasNone, HasSome, first_or_none, some_or_none, is_soa, start_or_none, one_start_or_not, outside_or_inside, clash_or_unmixed}
+use Rattle.zone_build.proofs.SomeZoneLemmas.{HasNone, HasSome, first_or_none, some_or_none, is_soa, start_or_none}
+use Rattle.zone_build.proofs.SomeZoneLemmas.{one_start_or_not, outside_or_inside, clash_or_unmixed}
 
 -- wire forms tell names apart
 wire_more : (label : List ℕ) (labels : Labels) → wire_of (label ∷ labels) ≡ length label ∷ (label ++ wire_of labels)
@@ -62,18 +66,27 @@ wire_of-injective (x ∷ xs) (y ∷ ys) e =
 
 same_owner : (one other : Record) → owner_order one other ≡ Equal → AreSame one.owner other.owner
 same_owner one other e =
-    wire_of-injective (folded_labels one.owner) (folded_labels other.owner) (bytes_cmp-equal (wire_of (folded_labels one.owner)) (wire_of (folded_labels other.owner)) e)
+    wire_of-injective (folded_labels one.owner) (folded_labels other.owner)
+    (bytes_cmp-equal (wire_of (folded_labels one.owner)) (wire_of (folded_labels other.owner)) e)
 
 -- what ranks equal is of one set, or repeats
 equal_set : (one other : Record) → key_order Set one other ≡ Equal → AreOneSet one other
-equal_set one other e =
-    (same_owner one other (equal_then (owner_order one other) (nat_cmp one.kind other.kind) e), nat_cmp-equal one.kind other.kind (then_equal (owner_order one other) (nat_cmp one.kind other.kind) e))
+equal_set one other e = (
+  same_owner one other (equal_then (owner_order one other) (nat_cmp one.kind other.kind) e),
+  nat_cmp-equal one.kind other.kind (then_equal (owner_order one other) (nat_cmp one.kind other.kind) e),
+)
 
 equal_repeats : (one other : Record) → order_of one other ≡ Equal → AreRepeats one other
 equal_repeats one other e =
     let data' = bytes_cmp (rdata_of one.content) (rdata_of other.content) in
-    let rest = then_equal (owner_order one other) _ e in
-    ((same_owner one other (equal_then (owner_order one other) _ e), nat_cmp-equal one.kind other.kind (equal_then (nat_cmp one.kind other.kind) data' rest)), bytes_cmp-equal (rdata_of one.content) (rdata_of other.content) (then_equal (nat_cmp one.kind other.kind) data' rest))
+    let rest = then_equal (owner_order one other) _ e in (
+      (
+        same_owner one other (equal_then (owner_order one other) _ e),
+        nat_cmp-equal one.kind other.kind (equal_then (nat_cmp one.kind other.kind) data' rest),
+      ),
+      bytes_cmp-equal (rdata_of one.content) (rdata_of other.content)
+          (then_equal (nat_cmp one.kind other.kind) data' rest),
+    )
 
 -- the least TTL of some records
 abbrev HasLeast : (Record → Type 0) → List Record → Type 0
@@ -86,13 +99,16 @@ least_or_none : (P : Record → Type 0) → ((r : Record) → Either (P r)) → 
 least_or_none P each [] = inr (λ one c p. Contains-none one c)
 least_or_none P each (x ∷ xs) = both (each x) (least_or_none P each xs)
   where
-    bound : (low : ℕ) → low ≤ x.ttl → ((other : Record) → Contains xs other → P other → low ≤ other.ttl) → (other : Record) → Contains (x ∷ xs) other → P other → low ≤ other.ttl
+    bound : (low : ℕ) → low ≤ x.ttl → ((other : Record) → Contains xs other → P other → low ≤ other.ttl)
+        → (other : Record) → Contains (x ∷ xs) other → P other → low ≤ other.ttl
     bound low h all other c p = elim (head_or_after x xs other c) [
       | inl here ↦ let e = ap (λ (r : Record). r.ttl) here in omega (arith, h, e)
       | inr after ↦ all other after p
     ]
 
-    lower : (one : Record) → Contains xs one → P one → P x → ((other : Record) → Contains xs other → P other → one.ttl ≤ other.ttl) → (x.ttl ≤ one.ttl) ⊎ (one.ttl ≤ x.ttl) → HasLeast P (x ∷ xs)
+    lower : (one : Record) → Contains xs one → P one → P x
+        → ((other : Record) → Contains xs other → P other → one.ttl ≤ other.ttl)
+        → (x.ttl ≤ one.ttl) ⊎ (one.ttl ≤ x.ttl) → HasLeast P (x ∷ xs)
     lower one c q p low (inl h) =
         (x, Contains-head x xs, p, bound x.ttl (omega arith) (λ other d r. let l = low other d r in omega (arith, h, l)))
     lower one c q p low (inr h) = (one, Contains-after x xs one c, q, bound one.ttl h low)
@@ -183,11 +199,20 @@ put (y ∷ ys) k r apart = at_place (three (order_of k y)) (put ys k r.1 (λ e c
       new = Contains-after y zs k p.new;
     }
 
-    at_place : (order_of k y ≡ Less) ⊎ ((order_of k y ≡ Equal) ⊎ (order_of k y ≡ Greater)) → (zs : List Record) × IsPut ys k zs → (zs : List Record) × IsPut (y ∷ ys) k zs
+    at_place : (order_of k y ≡ Less) ⊎ ((order_of k y ≡ Equal) ⊎ (order_of k y ≡ Greater))
+        → (zs : List Record) × IsPut ys k zs → (zs : List Record) × IsPut (y ∷ ys) k zs
     at_place (inl less) h = (
       k ∷ y ∷ ys,
       record {
-        rising = ((less, AllByRecursion-made (λ (next : Record). order_of k next ≡ Less) ys (λ e c. order_of-total.trans k y e less (AllByRecursion-contains (λ (next : Record). order_of y next ≡ Less) ys e r.0 c))), r);
+        rising = (
+          (
+            less,
+            AllByRecursion-made (λ (next : Record). order_of k next ≡ Less) ys
+                (λ e c. order_of-total.trans k y e less
+                (AllByRecursion-contains (λ (next : Record). order_of y next ≡ Less) ys e r.0 c)),
+          ),
+          r,
+        );
         from = λ e c. elim (head_or_after k (y ∷ ys) e c) [ inl here ↦ inr here | inr c' ↦ inl c' ];
         old = λ e c. Contains-after k (y ∷ ys) e c;
         new = Contains-head k (y ∷ ys);
@@ -216,7 +241,8 @@ first_longer done k one x (place, f) = (
 )
 
 -- one record more, where nothing more is kept
-made_same : (given done kept : List Record) (x : Record) → IsMade given done kept → (x.kind ≢ soa → (k : Record) × Contains kept k × AreRepeats x k) → IsMade given (done ++ x ∷ []) kept
+made_same : (given done kept : List Record) (x : Record) → IsMade given done kept
+    → (x.kind ≢ soa → (k : Record) × Contains kept k × AreRepeats x k) → IsMade given (done ++ x ∷ []) kept
 made_same given done kept x m there = record {
   from = λ k c. let f = m.from k c in (f.0, first_longer done k f.0 x f.1, f.2, f.3);
   all = λ one c not. elim (Contains-push_cases done x one c) [
@@ -228,7 +254,8 @@ made_same given done kept x m there = record {
 }
 
 -- one record more, of which something is kept
-made_new : (given done kept : List Record) (x : Record) → Contains given x → x.kind ≢ soa → IsMade given done kept → ¬ HasSome (AreRepeats x) kept → (kept' : List Record) × IsMade given (done ++ x ∷ []) kept'
+made_new : (given done kept : List Record) (x : Record) → Contains given x → x.kind ≢ soa → IsMade given done kept
+    → ¬ HasSome (AreRepeats x) kept → (kept' : List Record) × IsMade given (done ++ x ∷ []) kept'
 made_new given done kept x c not m none =
     let k = kept_some given x c in
     let same : AreRepeats x k.0 = kept_is_repeat given x k.0 k.1 in
@@ -244,8 +271,22 @@ made_new given done kept x c not m none =
         from = λ e d. elim (i.from e d) [
           | inl old ↦ let f = m.from e old in (f.0, first_longer done e f.0 x f.1, f.2, f.3)
           | inr new ↦
-              subst (λ (r : Record). (one : Record) × IsFirstRepeat (done ++ x ∷ []) r one × IsKept given one r × (one.kind ≢ soa)) (sym new)
-              (x, (length done, record { before = done; after = []; parts = refl; at = refl; here = alike_sym Whole x k.0 same; first = AllByRecursion-made (λ (y : Record). ¬ AreRepeats k.0 y) done lacks }), k.1, not)
+              subst (λ (r : Record). (one : Record) × IsFirstRepeat (done ++ x ∷ []) r one × IsKept given one r × (one.kind ≢ soa)) (sym new) (
+                x,
+                (
+                  length done,
+                  record {
+                    before = done;
+                    after = [];
+                    parts = refl;
+                    at = refl;
+                    here = alike_sym Whole x k.0 same;
+                    first = AllByRecursion-made (λ (y : Record). ¬ AreRepeats k.0 y) done lacks;
+                  },
+                ),
+                k.1,
+                not,
+              )
         ];
         all = λ one d other. elim (Contains-push_cases done x one d) [
           | inl old ↦ let f = m.all one old other in (f.0, i.old f.0 f.1, f.2)
@@ -255,7 +296,8 @@ made_new given done kept x c not m none =
       },
     )
 
-made_more : (given done kept : List Record) (x : Record) → Contains given x → IsMade given done kept → (kept' : List Record) × IsMade given (done ++ x ∷ []) kept'
+made_more : (given done kept : List Record) (x : Record) → Contains given x → IsMade given done kept
+    → (kept' : List Record) × IsMade given (done ++ x ∷ []) kept'
 made_more given done kept x c m = elim (is_soa x) [
   | inl start ↦ (kept, made_same given done kept x m (λ not. absurd (not start)))
   | inr not ↦ elim (some_or_none (AreRepeats x) (repeats_or_not x) kept) [
@@ -264,7 +306,8 @@ made_more given done kept x c m = elim (is_soa x) [
   ]
 ]
 
-made_all : (given done rest kept : List Record) → ((e : Record) → Contains rest e → Contains given e) → IsMade given done kept → (kept' : List Record) × IsMade given (done ++ rest) kept'
+made_all : (given done rest kept : List Record) → ((e : Record) → Contains rest e → Contains given e)
+    → IsMade given done kept → (kept' : List Record) × IsMade given (done ++ rest) kept'
 made_all given done [] kept among m = (kept, subst (λ l. IsMade given l kept) (sym (append-nil done)) m)
 made_all given done (x ∷ rest) kept among m =
     let n = made_more given done kept x (among x (Contains-head x rest)) m in
@@ -279,14 +322,18 @@ others_made given = made_all given [] given [] (λ e c. c) (record {
 })
 
 -- the zone that records make
-pub built_some : (given : List Record) (place : ℕ) (start : Record) → IsFirst (λ r. r.kind ≡ soa) given place start → HasOneStart given → (zone : Zone) × IsBuilt given zone
+pub built_some : (given : List Record) (place : ℕ) (start : Record) → IsFirst (λ r. r.kind ≡ soa) given place start
+    → HasOneStart given → (zone : Zone) × IsBuilt given zone
 built_some given place start f all =
     let c = first_in (λ (r : Record). r.kind ≡ soa) given place start f in
     let k = kept_some given start c in
     let m = others_made given in
     let same : AreRepeats start k.0 = kept_is_repeat given start k.0 k.1 in
     let back : AreRepeats k.0 start = alike_sym Whole start k.0 same in
-    let first : IsFirst (AreRepeats k.0) given place start = first_same (λ (r : Record). r.kind ≡ soa) (AreRepeats k.0) given place start (λ y d l. alike_trans Whole k.0 start y back (all start y c d f.here l)) (λ y d r. sym r.0.1 ∙ k.1.kind ∙ f.here) f in (
+    let first : IsFirst (AreRepeats k.0) given place start =
+    first_same (λ (r : Record). r.kind ≡ soa) (AreRepeats k.0) given place start
+    (λ y d l. alike_trans Whole k.0 start y back (all start y c d f.here l))
+    (λ y d r. sym r.0.1 ∙ k.1.kind ∙ f.here) f in (
       record { apex = folded_labels start.owner; records = k.0 ∷ m.0 },
       record {
         apex = λ one d l. (all start one c d f.here l).0.0;
@@ -299,7 +346,12 @@ built_some given place start f all =
           | inl l ↦ (k.0, Contains-head k.0 m.0, alike_trans Whole one start k.0 (all one start d c l f.here) same)
           | inr not ↦ let g = m.1.all one d not in (g.0, Contains-after k.0 m.0 g.0 g.1, g.2)
         ];
-        order = (k.1.kind ∙ f.here, AllByRecursion-made (λ (r : Record). r.kind ≢ soa) m.0 (λ r d l. let g = m.1.from r d in g.3 (sym g.2.kind ∙ l)), m.1.rising);
+        order = (
+          k.1.kind ∙ f.here,
+          AllByRecursion-made (λ (r : Record). r.kind ≢ soa) m.0
+              (λ r d l. let g = m.1.from r d in g.3 (sym g.2.kind ∙ l)),
+          m.1.rising,
+        );
       },
     )
 
@@ -307,7 +359,11 @@ built_some given place start f all =
 between : (x y z : Record) → order_of x y ≡ Less → order_of y z ≡ Less → AreOneSet x z → AreOneSet x y
 between x y z less less' same = elim (three (key_order Set x y)) [
   | inl before ↦
-      absurd (cc (sym (alike_equal Set x z same), less_not_after (key_order Set) (key_order-total Set) x y z before (key_not_after Set y z (λ g. cc (sym less', g)))))
+      absurd (cc (
+        sym (alike_equal Set x z same),
+        less_not_after (key_order Set) (key_order-total Set) x y z before
+            (key_not_after Set y z (λ g. cc (sym less', g))),
+      ))
   | inr (inl equal) ↦ equal_set x y equal
   | inr (inr after) ↦ absurd (key_not_after Set x y (λ g. cc (sym less, g)) after)
 ]
@@ -321,7 +377,10 @@ in_or_not owner kind one = both (same_or_not one.owner owner) (numbers one.kind 
     both (inl a) (inr not) = inr (λ s. not s.1)
 
 -- rising records have a set of each owner and kind
-joined : (x : Record) (xs : List Record) (owner : Labels) (kind : ℕ) (before set after : List Record) → IsRising (x ∷ xs) → IsIn owner kind x → xs ≡ before ++ (set ++ after) → AllByRecursion (IsIn owner kind) set → AllByRecursion (λ one. ¬ IsIn owner kind one) before → AllByRecursion (λ one. ¬ IsIn owner kind one) after → (set' : List Record) × IsSet (x ∷ xs) owner kind set'
+joined : (x : Record) (xs : List Record) (owner : Labels) (kind : ℕ) (before set after : List Record)
+    → IsRising (x ∷ xs) → IsIn owner kind x → xs ≡ before ++ (set ++ after) → AllByRecursion (IsIn owner kind) set
+    → AllByRecursion (λ one. ¬ IsIn owner kind one) before → AllByRecursion (λ one. ¬ IsIn owner kind one) after
+    → (set' : List Record) × IsSet (x ∷ xs) owner kind set'
 joined x xs owner kind [] set after r here parts each b n = (
   x ∷ set,
   record {
@@ -341,14 +400,16 @@ joined x xs owner kind (y ∷ before) [] after r here parts each b n = (
     parts = refl;
     each = (here, tt);
     none_before = tt;
-    none_after = subst (AllByRecursion (λ one. ¬ IsIn owner kind one)) (sym parts) (AllByRecursion-append (λ one. ¬ IsIn owner kind one) (y ∷ before) after b n);
+    none_after = subst (AllByRecursion (λ one. ¬ IsIn owner kind one)) (sym parts)
+        (AllByRecursion-append (λ one. ¬ IsIn owner kind one) (y ∷ before) after b n);
   },
 )
 joined x xs owner kind (y ∷ before) (z ∷ set) after r here parts each b n =
     let rising : IsRising (y ∷ (before ++ ((z ∷ set) ++ after))) = subst IsRising parts r.1 in
     let first : Contains xs y = subst (λ l. Contains l y) (sym parts) (Contains-head y (before ++ ((z ∷ set) ++ after))) in
     let less = AllByRecursion-contains (λ (next : Record). order_of x next ≡ Less) xs y r.0 first in
-    let less' = AllByRecursion-contains (λ (next : Record). order_of y next ≡ Less) (before ++ ((z ∷ set) ++ after)) z rising.0 (Contains-middle before z (set ++ after)) in
+    let less' = AllByRecursion-contains (λ (next : Record). order_of y next ≡ Less) (before
+    ++ ((z ∷ set) ++ after)) z rising.0 (Contains-middle before z (set ++ after)) in
     let same = between x y z less less' (here.0 ∙ sym each.0.0, here.1 ∙ sym each.0.1) in
     absurd (b.0 (sym same.0 ∙ here.0, sym same.1 ∙ here.1))
 
@@ -373,7 +434,8 @@ some_set (start ∷ rest) owner kind c = elim (in_or_not owner kind start) [
       parts = refl;
       each = (here, tt);
       none_before = tt;
-      none_after = AllByRecursion-made (λ one. ¬ IsIn owner kind one) rest (λ r d i. AllByRecursion-contains (λ (one : Record). one.kind ≢ soa) rest r c.1 d (i.1 ∙ sym here.1 ∙ c.0));
+      none_after = AllByRecursion-made (λ one. ¬ IsIn owner kind one) rest
+          (λ r d i. AllByRecursion-contains (λ (one : Record). one.kind ≢ soa) rest r c.1 d (i.1 ∙ sym here.1 ∙ c.0));
     },
   )
   | inr not ↦ let i = rising_set rest owner kind c.2 in (i.0, tail_set start rest owner kind i.0 not i.1)
@@ -420,7 +482,8 @@ sized given zone plain free built =
       ]
     ]
 
-placed : (given : List Record) (place : ℕ) (start : Record) → ((one : Record) → Contains given one → IsPlain one) → IsFirst (λ r. r.kind ≡ soa) given place start → HasSoa given → HasOneStart given → MakesOne given
+placed : (given : List Record) (place : ℕ) (start : Record) → ((one : Record) → Contains given one → IsPlain one)
+    → IsFirst (λ r. r.kind ≡ soa) given place start → HasSoa given → HasOneStart given → MakesOne given
 placed given place start plain f has one_soa =
     let c = first_in (λ (r : Record). r.kind ≡ soa) given place start f in
     elim (outside_or_inside given start c f.here one_soa) [

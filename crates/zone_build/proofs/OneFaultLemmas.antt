@@ -66,7 +66,27 @@ tested given (fault.OutOfZone place) h m = inr (h.0, inr (h.1, inl (place, h.2.0
 tested given (fault.AliasClash name) (inside, (place, one, named, first)) m =
     inr (inside.some, inr (inside.one, inr (inside.inside, inl (place, one, first, ap fault.AliasClash named))))
 tested given (fault.SetTooLarge name kind) (free, (zone, place, one, built, named, kinds, first)) m =
-    inr (free.inside.some, inr (free.inside.one, inr (free.inside.inside, inr (free.unmixed, inl (zone, place, one, built, first, ap (λ n. fault.SetTooLarge n kind) named ∙ ap (fault.SetTooLarge one.owner) kinds)))))
+    inr (
+      free.inside.some,
+      inr (
+        free.inside.one,
+        inr (
+          free.inside.inside,
+          inr (
+            free.unmixed,
+            inl (
+              zone,
+              place,
+              one,
+              built,
+              first,
+              ap (λ n. fault.SetTooLarge n kind) named
+                  ∙ ap (fault.SetTooLarge one.owner) kinds,
+            ),
+          ),
+        ),
+      ),
+    )
 tested given (fault.WildcardCut name) (free, small, (place, one, named, first)) m =
     inr (free.inside.some, inr (free.inside.one, inr (free.inside.inside, inr (free.unmixed, inr (small, (place, one, first, ap fault.WildcardCut named))))))
 tested given fault.Memory h m = absurd (m refl)
@@ -96,7 +116,8 @@ one_large given f g (inr (none, cut)) (inr (none', cut')) = one_cut given f g cu
 
 one_clash : (given : List Record) (f g : ZoneFault) → FromClash given f → FromClash given g → f ≡ g
 one_clash given f g (inl (place, one, first, is)) (inl (place', one', first', is')) =
-    is ∙ ap (λ (r : Record). fault.AliasClash (folded_labels r.owner)) (one_first (λ r. Clashes given r.owner) given place place' one one' first first').1 ∙ sym is'
+    is ∙ ap (λ (r : Record). fault.AliasClash (folded_labels r.owner))
+    (one_first (λ r. Clashes given r.owner) given place place' one one' first first').1 ∙ sym is'
 one_clash given f g (inl (place, one, first, is)) (inr (none, more)) = absurd (clashing given one.owner none first.here)
 one_clash given f g (inr (none, more)) (inl (place, one, first, is)) = absurd (clashing given one.owner none first.here)
 one_clash given f g (inr (none, more)) (inr (none', more')) = one_large given f g more more'
@@ -122,7 +143,8 @@ one_start given f g (inl a) (inr b) = absurd (a.0 b.0)
 one_start given f g (inr a) (inl b) = absurd (b.0 a.0)
 one_start given f g (inr a) (inr b) = one_starts given f g a.1 b.1
 
-pub one_fault : (given : List Record) (one other : ZoneFault) → IsZoneFault given one → IsZoneFault given other → one ≢ fault.Memory → other ≢ fault.Memory → one ≡ other
+pub one_fault : (given : List Record) (one other : ZoneFault) → IsZoneFault given one → IsZoneFault given other
+    → one ≢ fault.Memory → other ≢ fault.Memory → one ≡ other
 one_fault given one other a b m n = one_start given one other (tested given one a m) (tested given other b n)
 
 -- records that make a valid zone pass all tests

@@ -43,21 +43,27 @@ bytes_cmp-equal (x ∷ xs) (y ∷ ys) e =
     ap (λ k. k ∷ xs) head ∙ ap (λ l. y ∷ l) rest
 
 -- the order of folded wire forms is that of the wire forms of folded names
-pub wires_cmp : (one other : List (List ℕ)) → IsName one → IsName other → bytes_cmp (folded (wire_of one)) (folded (wire_of other)) ≡ bytes_cmp (wire_of (folded_labels one)) (wire_of (folded_labels other))
+pub wires_cmp : (one other : List (List ℕ)) → IsName one → IsName other
+    → bytes_cmp (folded (wire_of one)) (folded (wire_of other))
+    ≡ bytes_cmp (wire_of (folded_labels one)) (wire_of (folded_labels other))
 wires_cmp one other n m =
     ap (λ x. bytes_cmp x (folded (wire_of other))) (folded-wire_of one n.each) ∙ ap (bytes_cmp (wire_of (folded_labels one))) (folded-wire_of other m.each)
 
 -- names that are equal in order are the same
-pub same_names : (one other : List (List ℕ)) → IsName one → IsName other → bytes_cmp (wire_of (folded_labels one)) (wire_of (folded_labels other)) ≡ Equal → AreSame one other
+pub same_names : (one other : List (List ℕ)) → IsName one → IsName other
+    → bytes_cmp (wire_of (folded_labels one)) (wire_of (folded_labels other)) ≡ Equal → AreSame one other
 same_names one other n m e =
     let is = bytes_cmp-equal (wire_of (folded_labels one)) (wire_of (folded_labels other)) e in
-    sym (labels_of-wire_of (folded_labels one) (IsName-folded one n).each) ∙ ap labels_of is ∙ labels_of-wire_of (folded_labels other) (IsName-folded other m).each
+    sym (labels_of-wire_of (folded_labels one) (IsName-folded one n).each) ∙ ap labels_of is
+    ∙ labels_of-wire_of (folded_labels other) (IsName-folded other m).each
 
 pub owner_order-total : IsTotalOrder owner_order
 owner_order-total = on_total (λ (one : Record). wire_of (folded_labels one.owner)) nat_list_cmp_total
 
 pub order_of-total : IsTotalOrder order_of
-order_of-total = then_total owner_order-total (then_total (on_total (λ (one : Record). one.kind) nat_cmp_total) (on_total (λ (one : Record). rdata_of one.content) nat_list_cmp_total))
+order_of-total = then_total owner_order-total
+    (then_total (on_total (λ (one : Record). one.kind) nat_cmp_total)
+    (on_total (λ (one : Record). rdata_of one.content) nat_list_cmp_total))
 
 pub entry_order-total : IsTotalOrder entry_order
 entry_order-total = then_total (on_total (λ (one : Given). one.given) order_of-total) (on_total (λ (one : Given). one.place) nat_cmp_total)
@@ -106,8 +112,10 @@ same_owners one other a =
 -- alike records are equal in order
 pub repeats_equal : (one other : Record) → AreRepeats one other → order_of one other ≡ Equal
 repeats_equal one other a =
-    ap (λ o. ordering_then o (ordering_then (nat_cmp one.kind other.kind) (bytes_cmp (rdata_of one.content) (rdata_of other.content)))) (same_owners one other a.0.0)
-    ∙ ap (λ o. ordering_then o (bytes_cmp (rdata_of one.content) (rdata_of other.content))) (ap (nat_cmp one.kind) (sym a.0.1) ∙ tied_itself nat_cmp_total one.kind)
+    ap (λ o. ordering_then o (ordering_then (nat_cmp one.kind other.kind)
+    (bytes_cmp (rdata_of one.content) (rdata_of other.content)))) (same_owners one other a.0.0)
+    ∙ ap (λ o. ordering_then o (bytes_cmp (rdata_of one.content) (rdata_of other.content)))
+    (ap (nat_cmp one.kind) (sym a.0.1) ∙ tied_itself nat_cmp_total one.kind)
     ∙ ap (bytes_cmp (rdata_of one.content)) (sym a.1) ∙ tied_itself nat_list_cmp_total (rdata_of one.content)
 
 pub alike_equal : (key : Key) (one other : Record) → AreAlike key one other → key_order key one other ≡ Equal
@@ -166,9 +174,13 @@ pub later_apart : (key : Key) (one other : Record) → key_order key one other �
 later_apart key one other l a = cc (sym l, alike_equal key one other a)
 
 -- numbers that differ tell the order of the owners
-pub keys_apart : (one other : Record) (kind ttl front kind' ttl' front' : ℕ) (rdata rdata' : List ℕ) (o : Ordering) → AreKeys one kind ttl front rdata → AreKeys other kind' ttl' front' rdata' → o ≡ nat_cmp front front' → o ≢ Equal → o ≡ owner_order one other
+pub keys_apart : (one other : Record) (kind ttl front kind' ttl' front' : ℕ) (rdata rdata' : List ℕ) (o : Ordering)
+    → AreKeys one kind ttl front rdata → AreKeys other kind' ttl' front' rdata' → o ≡ nat_cmp front front' → o ≢ Equal
+    → o ≡ owner_order one other
 keys_apart one other kind ttl front kind' ttl' front' rdata rdata' o keys keys' is not =
-    fronts_apart 16 (folded (wire_of one.owner)) (folded (wire_of other.owner)) o keys.bytes keys'.bytes (is ∙ ap (λ n. nat_cmp n front') keys.of_owner ∙ ap (nat_cmp (front_of 16 (folded (wire_of one.owner)))) keys'.of_owner) not
+    fronts_apart 16 (folded (wire_of one.owner)) (folded (wire_of other.owner)) o keys.bytes keys'.bytes
+    (is ∙ ap (λ n. nat_cmp n front') keys.of_owner
+    ∙ ap (nat_cmp (front_of 16 (folded (wire_of one.owner)))) keys'.of_owner) not
     ∙ wires_cmp one.owner other.owner keys.name keys'.name
 
 -- records that are equal in order are alike
@@ -181,5 +193,10 @@ equal_alike Set one other n m e = (
 equal_alike Whole one other n m e =
     let kinds = nat_cmp one.kind other.kind in
     let rest = bytes_cmp (rdata_of one.content) (rdata_of other.content) in
-    let both = then_equal (owner_order one other) (ordering_then kinds rest) e in
-    ((same_names one.owner other.owner n m (equal_then (owner_order one other) (ordering_then kinds rest) e), nat_cmp-equal one.kind other.kind (equal_then kinds rest both)), bytes_cmp-equal (rdata_of one.content) (rdata_of other.content) (then_equal kinds rest both))
+    let both = then_equal (owner_order one other) (ordering_then kinds rest) e in (
+      (
+        same_names one.owner other.owner n m (equal_then (owner_order one other) (ordering_then kinds rest) e),
+        nat_cmp-equal one.kind other.kind (equal_then kinds rest both),
+      ),
+      bytes_cmp-equal (rdata_of one.content) (rdata_of other.content) (then_equal kinds rest both),
+    )

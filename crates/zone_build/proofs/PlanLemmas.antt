@@ -31,7 +31,8 @@ record IsChosenAt (given : List Record) (chosen : List Chosen) (k : ℕ) (one : 
   pub within : one.from.place < length given
   pub there : (d : Record) → get_or given one.from.place d ≡ one.from.given
 
-chosen_at : (given : List Record) (entries : List Given) (chosen : List Chosen) (k : ℕ) → AreGivens given entries → AreAmong entries chosen → k < length chosen → (one : Chosen) × IsChosenAt given chosen k one
+chosen_at : (given : List Record) (entries : List Given) (chosen : List Chosen) (k : ℕ) → AreGivens given entries
+    → AreAmong entries chosen → k < length chosen → (one : Chosen) × IsChosenAt given chosen k one
 chosen_at given entries chosen k are among h =
     let s = some_at chosen k h in
     let e = are.each s.0.from (among s.0 s.1) in (
@@ -45,13 +46,16 @@ chosen_at given entries chosen k are among h =
     )
 
 -- records that stand where what is chosen was given are what is kept of it
-settled_are : (given : List Record) (entries : List Given) (chosen : List Chosen) (kept : List Record) → AreGivens given entries → AreAmong entries chosen → AreSettled given (map keep_of chosen) kept → kept ≡ map copy_of chosen
+settled_are : (given : List Record) (entries : List Given) (chosen : List Chosen) (kept : List Record)
+    → AreGivens given entries → AreAmong entries chosen → AreSettled given (map keep_of chosen) kept
+    → kept ≡ map copy_of chosen
 settled_are given entries chosen kept are among s =
     same_lists kept (map copy_of chosen) (s.size ∙ length-map chosen keep_of ∙ sym (length-map chosen copy_of)) (λ k d h.
     let within : k < length chosen = sized k h in
     let c = chosen_at given entries chosen k are among within in
     let by = c.1.kept_by (keep_of c.0) in
-    s.each k d (keep_of c.0) (inside k within) ∙ ap (λ (y : Keep). settled y.ttl (get_or given y.place d)) by ∙ ap (settled c.0.ttl) (c.1.there d) ∙ sym (c.1.kept_as d))
+    s.each k d (keep_of c.0) (inside k within) ∙ ap (λ (y : Keep). settled y.ttl (get_or given y.place d)) by
+    ∙ ap (settled c.0.ttl) (c.1.there d) ∙ sym (c.1.kept_as d))
   where
     sized : (k : ℕ) → k < length kept → k < length chosen
     sized k h = subst (λ n. k < n) (s.size ∙ length-map chosen keep_of) h
@@ -79,7 +83,8 @@ canonical_at (x ∷ xs) (suc j) (suc k) d c l h same =
     absurd (cc (sym (rising_at xs j k d c.2 (omega arith) (omega arith)), alike_equal Whole (get_or xs j d) (get_or xs k d) same))
 
 -- what is chosen stands at different places
-chosen_apart : (given : List Record) (entries : List Given) (chosen : List Chosen) → AreGivens given entries → AreAmong entries chosen → IsCanonical (map copy_of chosen) → AreApart (length given) (map keep_of chosen)
+chosen_apart : (given : List Record) (entries : List Given) (chosen : List Chosen) → AreGivens given entries
+    → AreAmong entries chosen → IsCanonical (map copy_of chosen) → AreApart (length given) (map keep_of chosen)
 chosen_apart given entries chosen are among canonical = record {
   within = λ k d h.
       let c = chosen_at given entries chosen k are among (sized k h) in
@@ -90,8 +95,12 @@ chosen_apart given entries chosen are among canonical = record {
       let places : a.0.from.place ≡ b.0.from.place = sym (ap (λ (y : Keep). y.place) (a.1.kept_by d)) ∙ same ∙ ap (λ (y : Keep). y.place) (b.1.kept_by d) in
       let x = b.0.from.given in
       let givens : a.0.from.given ≡ x = sym (a.1.there x) ∙ ap (λ p. get_or given p x) places ∙ b.1.there x in
-      let repeats : AreRepeats (copy_of a.0) (copy_of b.0) = subst (λ (r : Record). AreRepeats (settled a.0.ttl r) (copy_of b.0)) (sym givens) ((refl, refl), refl) in
-      canonical_at (map copy_of chosen) j k x canonical l (subst (λ n. k < n) (sym (length-map chosen copy_of)) (sized k h)) (subst (λ (r : Record). AreRepeats r (get_or (map copy_of chosen) k x)) (sym (a.1.kept_as x)) (subst (λ (r : Record). AreRepeats (copy_of a.0) r) (sym (b.1.kept_as x)) repeats));
+      let repeats : AreRepeats (copy_of a.0) (copy_of b.0) =
+      subst (λ (r : Record). AreRepeats (settled a.0.ttl r) (copy_of b.0)) (sym givens) ((refl, refl), refl) in
+      canonical_at (map copy_of chosen) j k x canonical l
+      (subst (λ n. k < n) (sym (length-map chosen copy_of)) (sized k h))
+      (subst (λ (r : Record). AreRepeats r (get_or (map copy_of chosen) k x)) (sym (a.1.kept_as x))
+      (subst (λ (r : Record). AreRepeats (copy_of a.0) r) (sym (b.1.kept_as x)) repeats));
 }
   where
     sized : (k : ℕ) → k < length (map keep_of chosen) → k < length chosen
@@ -103,7 +112,8 @@ record IsChoice (given : List Record) (apex : Labels) (keeps : List Keep) (entri
   pub among : AreAmong entries chosen
   pub built : IsBuilt given (record { apex = apex; records = map copy_of chosen })
 
-choice_of : (given : List Record) (apex : Labels) (keeps : List Keep) (cut : Option Labels) (p : IsPlan given apex keeps cut) → (chosen : List Chosen) × IsChoice given apex keeps p.entries chosen
+choice_of : (given : List Record) (apex : Labels) (keeps : List Keep) (cut : Option Labels)
+    (p : IsPlan given apex keeps cut) → (chosen : List Chosen) × IsChoice given apex keeps p.entries chosen
 choice_of given apex keeps cut p = from p.kept
   where
     from : IsKeptList p.entries keeps → (chosen : List Chosen) × IsChoice given apex keeps p.entries chosen
@@ -112,7 +122,10 @@ choice_of given apex keeps cut p = from p.kept
       record {
         keeps_are = is ∙ sym (map-append keep_of first others);
         among = λ one c. elim (Contains-append_cases first others one c) [ inl here ↦ among one here | inr after ↦ among' one after ];
-        built = subst (λ l. IsBuilt given (record { apex = apex; records = l })) (sym (map-append copy_of first others)) (built_of given p.entries apex (map copy_of first) (map copy_of others) p.givens p.unmixed.inside.some p.unmixed.inside.one p.apex_is a b);
+        built = subst (λ l. IsBuilt given (record { apex = apex; records = l }))
+            (sym (map-append copy_of first others))
+            (built_of given p.entries apex (map copy_of first)
+            (map copy_of others) p.givens p.unmixed.inside.some p.unmixed.inside.one p.apex_is a b);
       },
     )
 
@@ -122,13 +135,18 @@ plan_apart given apex keeps cut p =
     subst (AreApart (length given)) (sym c.1.keeps_are) (chosen_apart given p.entries c.0 p.givens c.1.among c.1.built.order)
 
 -- the kept records make the built zone
-pub plan_built : (given : List Record) (apex : Labels) (keeps : List Keep) (cut : Option Labels) (kept : List Record) → IsPlan given apex keeps cut → AreSettled given keeps kept → IsBuilt given (record { apex = apex; records = kept })
+pub plan_built : (given : List Record) (apex : Labels) (keeps : List Keep) (cut : Option Labels) (kept : List Record)
+    → IsPlan given apex keeps cut → AreSettled given keeps kept → IsBuilt given (record { apex = apex; records = kept })
 plan_built given apex keeps cut kept p s =
     let c = choice_of given apex keeps cut p in
-    subst (λ l. IsBuilt given (record { apex = apex; records = l })) (sym (settled_are given p.entries c.0 kept p.givens c.1.among (subst (λ l. AreSettled given l kept) c.1.keeps_are s))) c.1.built
+    subst (λ l. IsBuilt given (record { apex = apex; records = l }))
+    (sym (settled_are given p.entries c.0 kept p.givens c.1.among
+    (subst (λ l. AreSettled given l kept) c.1.keeps_are s))) c.1.built
 
 -- the same, as the lists are read
-pub plan_made : (given shown items : List Record) (apex : Labels) (keeps told : List Keep) (cut : Option Labels) (kept : List Record) → shown ≡ given → items ≡ given → told ≡ keeps → IsPlan shown apex keeps cut → AreSettled items told kept → IsPlan given apex keeps cut × IsBuilt given (record { apex = apex; records = kept })
+pub plan_made : (given shown items : List Record) (apex : Labels) (keeps told : List Keep) (cut : Option Labels)
+    (kept : List Record) → shown ≡ given → items ≡ given → told ≡ keeps → IsPlan shown apex keeps cut
+    → AreSettled items told kept → IsPlan given apex keeps cut × IsBuilt given (record { apex = apex; records = kept })
 plan_made given shown items apex keeps told cut kept is is' is'' plan settled =
     let p = subst (λ l. IsPlan l apex keeps cut) is plan in
     (p, plan_built given apex keeps cut kept p (subst (λ l. AreSettled l keeps kept) is' (subst (λ l. AreSettled items l kept) is'' settled)))

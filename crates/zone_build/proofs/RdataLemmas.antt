@@ -31,7 +31,9 @@ kind_is (content.Cname target) kind class b w = eqb-true kind cname (and_parts (
 kind_is (content.Soa start) kind class b w = eqb-true kind soa (and_parts (kind == soa) (class == internet) b).0
 kind_is (content.Ptr name) kind class b w = eqb-true kind ptr (and_parts (kind == ptr) (class == internet) b).0
 kind_is (content.Mx preference exchange) kind class b w = eqb-true kind mx (and_parts (kind == mx) (class == internet) b).0
-kind_is (content.Txt texts) kind class b w = eqb-true kind txt (and_parts (kind == txt) (class == internet) (and_parts (kind == txt && class == internet) (nat_lt 0 (length texts)) b).0).0
+kind_is (content.Txt texts) kind class b w =
+    eqb-true kind txt (and_parts (kind == txt) (class == internet)
+    (and_parts (kind == txt && class == internet) (nat_lt 0 (length texts)) b).0).0
 kind_is (content.Aaaa address) kind class b w = eqb-true kind aaaa (and_parts (kind == aaaa) (class == internet) b).0
 kind_is (content.Srv priority weight port target) kind class b w = eqb-true kind srv (and_parts (kind == srv) (class == internet) b).0
 kind_is (content.Naptr r) kind class b w = eqb-true kind naptr (and_parts (kind == naptr) (class == internet) b).0
@@ -82,10 +84,15 @@ same_kind one other p q same =
     sym (kind_is one.content one.kind one.class one.belongs p.whole) ∙ same ∙ kind_is other.content other.kind other.class other.belongs q.whole
 
 -- what is compared of records of one kind that are no rules is their RDATA
-pub whole_cmp : (one other : Record) (kind ttl front kind' ttl' front' : ℕ) (bytes bytes' : List ℕ) → AreKeys one kind ttl front bytes → AreKeys other kind' ttl' front' bytes' → IsNoRule one.content → one.kind ≡ other.kind → bytes_cmp bytes bytes' ≡ bytes_cmp (rdata_of one.content) (rdata_of other.content)
+pub whole_cmp : (one other : Record) (kind ttl front kind' ttl' front' : ℕ) (bytes bytes' : List ℕ)
+    → AreKeys one kind ttl front bytes → AreKeys other kind' ttl' front' bytes' → IsNoRule one.content
+    → one.kind ≡ other.kind → bytes_cmp bytes bytes' ≡ bytes_cmp (rdata_of one.content) (rdata_of other.content)
 whole_cmp one other kind ttl front kind' ttl' front' bytes bytes' keys keys' none same =
     ap (λ l. bytes_cmp l bytes') (keys.of_content ∙ sym (compared_whole one.content none))
-    ∙ ap (bytes_cmp (rdata_of one.content)) (keys'.of_content ∙ sym (compared_whole other.content (no_rules one.content other.content none (same_kind one other keys.plain keys'.plain same))))
+    ∙ ap (bytes_cmp (rdata_of one.content))
+    (keys'.of_content
+    ∙ sym (compared_whole other.content
+    (no_rules one.content other.content none (same_kind one other keys.plain keys'.plain same))))
 
 -- RDATA of rules begins with their two numbers
 bytes_of : (n : ℕ) (i : ℕ) → byte_at i n < 256
@@ -119,12 +126,16 @@ front_both rule is =
     omega (arith, number, order, three, four)
 
 -- ORDER decides, where it differs
-by_order : (one other : Naptr) → IsRule one → IsRule other → (o : Ordering) → o ≡ nat_cmp one.order other.order → o ≢ Equal → o ≡ bytes_cmp (rdata one) (rdata other)
+by_order : (one other : Naptr) → IsRule one → IsRule other → (o : Ordering) → o ≡ nat_cmp one.order other.order
+    → o ≢ Equal → o ≡ bytes_cmp (rdata one) (rdata other)
 by_order one other h k o is not =
-    fronts_apart 2 (rdata one) (rdata other) o (fewer one) (fewer other) (is ∙ ap (λ n. nat_cmp n other.order) (sym (front_order one h)) ∙ ap (nat_cmp (front_of 2 (rdata one))) (sym (front_order other k))) not
+    fronts_apart 2 (rdata one) (rdata other) o (fewer one) (fewer other)
+    (is ∙ ap (λ n. nat_cmp n other.order) (sym (front_order one h))
+    ∙ ap (nat_cmp (front_of 2 (rdata one))) (sym (front_order other k))) not
 
 -- after equal ORDER the two numbers are in the order of PREFERENCE
-both_numbers : (one other : Naptr) → IsRule one → IsRule other → one.order ≡ other.order → (p : Ordering) → p ≡ nat_cmp one.preference other.preference → p ≡ nat_cmp (front_of 4 (rdata one)) (front_of 4 (rdata other))
+both_numbers : (one other : Naptr) → IsRule one → IsRule other → one.order ≡ other.order → (p : Ordering)
+    → p ≡ nat_cmp one.preference other.preference → p ≡ nat_cmp (front_of 4 (rdata one)) (front_of 4 (rdata other))
 both_numbers one other h k same Less is =
     let less = ranked one.preference other.preference Less is in
     let first = front_both one h in
@@ -141,13 +152,17 @@ both_numbers one other h k same Greater is =
     let second = front_both other k in
     nat_cmp_is (front_of 4 (rdata one)) (front_of 4 (rdata other)) Greater (omega (arith, greater, same, first, second))
 
-by_numbers : (one other : Naptr) → IsRule one → IsRule other → (o p : Ordering) → o ≡ nat_cmp one.order other.order → p ≡ nat_cmp one.preference other.preference → ordering_then o (ordering_then p (bytes_cmp (rdata one) (rdata other))) ≡ bytes_cmp (rdata one) (rdata other)
+by_numbers : (one other : Naptr) → IsRule one → IsRule other → (o p : Ordering) → o ≡ nat_cmp one.order other.order
+    → p ≡ nat_cmp one.preference other.preference
+    → ordering_then o (ordering_then p (bytes_cmp (rdata one) (rdata other))) ≡ bytes_cmp (rdata one) (rdata other)
 by_numbers one other h k Less p order preference = by_order one other h k Less order (λ e. cc)
 by_numbers one other h k Greater p order preference = by_order one other h k Greater order (λ e. cc)
 by_numbers one other h k Equal Less order preference =
-    fronts_apart 4 (rdata one) (rdata other) Less (small one) (small other) (both_numbers one other h k (nat_cmp-equal one.order other.order (sym order)) Less preference) (λ e. cc)
+    fronts_apart 4 (rdata one) (rdata other) Less (small one) (small other)
+    (both_numbers one other h k (nat_cmp-equal one.order other.order (sym order)) Less preference) (λ e. cc)
 by_numbers one other h k Equal Greater order preference =
-    fronts_apart 4 (rdata one) (rdata other) Greater (small one) (small other) (both_numbers one other h k (nat_cmp-equal one.order other.order (sym order)) Greater preference) (λ e. cc)
+    fronts_apart 4 (rdata one) (rdata other) Greater (small one) (small other)
+    (both_numbers one other h k (nat_cmp-equal one.order other.order (sym order)) Greater preference) (λ e. cc)
 by_numbers one other h k Equal Equal order preference = refl
 
 -- rules are in the order of their RDATA

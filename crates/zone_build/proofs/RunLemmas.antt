@@ -11,7 +11,8 @@ use Rattle.zone_build.specs.Zone.{AreRepeats, order_of}
 use Rattle.zone_build.specs.Building.{Given, key_order, AreAlike, IsOrdered, IsStable, IsRun}
 use Rattle.zone_build.specs.declared.key.Key.{Key}
 use Rattle.zone_build.proofs.ListLemmas.{take_in, drop_in, turn_of, turned_all, AllByRecursion-contains}
-use Rattle.zone_build.proofs.OrderLemmas.{alike_itself, key_order-total, key_not_after, alike_equal, alike_sym, alike_trans, equal_less, less_not_after, then_before}
+use Rattle.zone_build.proofs.OrderLemmas.{alike_itself, key_order-total, key_not_after, alike_equal, alike_sym}
+use Rattle.zone_build.proofs.OrderLemmas.{alike_trans, equal_less, less_not_after, then_before}
 
 AllByRecursion-drop : {X : Type 0} (P : X → Type 0) (n : ℕ) (xs : List X) → AllByRecursion P xs → AllByRecursion P (drop n xs)
 AllByRecursion-drop P zero xs all = all
@@ -45,40 +46,50 @@ stable_take (suc n) (x ∷ all) o =
     (AllByRecursion-take (λ (next : Given). AreRepeats x.given next.given → x.place ≤ next.place) n all o.0, stable_take n all o.1)
 
 -- the first of stable entries is before its repeats among them
-pub stable_head : (part : List Given) (head other : Given) → IsStable part → head ≡ get_or part 0 head → Contains part other → AreRepeats head.given other.given → head.place ≤ other.place
+pub stable_head : (part : List Given) (head other : Given) → IsStable part → head ≡ get_or part 0 head
+    → Contains part other → AreRepeats head.given other.given → head.place ≤ other.place
 stable_head [] head other o is c same = absurd (Contains-none other c)
 stable_head (x ∷ part) head other o is c same = elim (head_or_after x part other c) [
   | inl here ↦ let e = ap (λ (g : Given). g.place) (is ∙ sym here) in omega (arith, e)
   | inr after ↦
       let e = ap (λ (g : Given). g.place) is in
-      let l = AllByRecursion-contains (λ (next : Given). AreRepeats x.given next.given → x.place ≤ next.place) part other o.0 after (subst (λ (g : Given). AreRepeats g.given other.given) is same) in
+      let l = AllByRecursion-contains
+      (λ (next : Given). AreRepeats x.given next.given → x.place ≤ next.place) part other o.0 after
+      (subst (λ (g : Given). AreRepeats g.given other.given) is same) in
       omega (arith, e, l)
 ]
 
 -- what stands in front of another does not come after it
-pub ordered_pair : (n : ℕ) (all : List Given) (one other : Given) → IsOrdered all → Contains (take n all) one → Contains (drop n all) other → order_of one.given other.given ≢ Greater
+pub ordered_pair : (n : ℕ) (all : List Given) (one other : Given) → IsOrdered all → Contains (take n all) one
+    → Contains (drop n all) other → order_of one.given other.given ≢ Greater
 ordered_pair zero all one other o c d = absurd (Contains-none one c)
 ordered_pair (suc n) [] one other o c d = absurd (Contains-none one c)
 ordered_pair (suc n) (x ∷ all) one other o c d =
     elim (head_or_after x (take n all) one c) [
       | inl here ↦
-          subst (λ (g : Given). order_of g.given other.given ≢ Greater) (sym here) (AllByRecursion-contains (λ (next : Given). order_of x.given next.given ≢ Greater) all other o.0 (drop_in n all other d))
+          subst (λ (g : Given). order_of g.given other.given ≢ Greater) (sym here)
+          (AllByRecursion-contains (λ (next : Given). order_of x.given next.given ≢ Greater) all other o.0
+          (drop_in n all other d))
       | inr after ↦ ordered_pair n all one other o.1 after d
     ]
 
 -- from a place on stand its element, and others that do not come before it
-from_place : (at : ℕ) (all : List Given) (next other : Given) → IsOrdered all → at < length all → next ≡ get_or all at next → Contains (drop at all) other → (other ≡ next) ⊎ (order_of next.given other.given ≢ Greater)
+from_place : (at : ℕ) (all : List Given) (next other : Given) → IsOrdered all → at < length all
+    → next ≡ get_or all at next → Contains (drop at all) other
+    → (other ≡ next) ⊎ (order_of next.given other.given ≢ Greater)
 from_place zero [] next other o within is c = absurd (Contains-none other c)
 from_place zero (x ∷ all) next other o within is c =
     elim (head_or_after x all other c) [
       | inl here ↦ inl (here ∙ sym is)
       | inr after ↦
-          inr (subst (λ (g : Given). order_of g.given other.given ≢ Greater) (sym is) (AllByRecursion-contains (λ (y : Given). order_of x.given y.given ≢ Greater) all other o.0 after))
+          inr (subst (λ (g : Given). order_of g.given other.given ≢ Greater) (sym is)
+          (AllByRecursion-contains (λ (y : Given). order_of x.given y.given ≢ Greater) all other o.0 after))
     ]
 from_place (suc n) [] next other o within is c = absurd (Contains-none other c)
 from_place (suc n) (x ∷ all) next other o within is c = from_place n all next other o.1 (omega arith) is c
 
-not_at_head : (key : Key) (all : List Given) (head next : Given) (at : ℕ) → head ≡ get_or all 0 head → next ≡ get_or all at next → at < length all → key_order key head.given next.given ≢ Equal → 0 < at
+not_at_head : (key : Key) (all : List Given) (head next : Given) (at : ℕ) → head ≡ get_or all 0 head
+    → next ≡ get_or all at next → at < length all → key_order key head.given next.given ≢ Equal → 0 < at
 not_at_head key [] head next at h is within not = absurd (omega arith)
 not_at_head key (x ∷ all) head next zero h is within not =
     absurd (not (ap (λ (g : Given). key_order key head.given g.given) (is ∙ sym h) ∙ tied_itself (key_order-total key) head.given))
@@ -96,20 +107,27 @@ place_in (x ∷ all) next zero is within = subst (λ g. Contains (x ∷ all) g) 
 place_in (x ∷ all) next (suc at) is within = place_in all next at is (omega arith)
 
 -- a run ends at the first that is not alike
-pub run_ends : (key : Key) (all : List Given) (head next : Given) (at : ℕ) (o : Ordering) → IsOrdered all → head ≡ get_or all 0 head → next ≡ get_or all at next → at < length all → ((e : Given) → Contains (take at all) e → AreAlike key head.given e.given) → o ≡ key_order key head.given next.given → o ≢ Equal → IsRun key all at
+pub run_ends : (key : Key) (all : List Given) (head next : Given) (at : ℕ) (o : Ordering) → IsOrdered all
+    → head ≡ get_or all 0 head → next ≡ get_or all at next → at < length all
+    → ((e : Given) → Contains (take at all) e → AreAlike key head.given e.given)
+    → o ≡ key_order key head.given next.given → o ≢ Equal → IsRun key all at
 run_ends key all head next at o ordered h is within alike order not =
     let differs : key_order key head.given next.given ≢ Equal = λ e. not (order ∙ e) in
     let some : 0 < at = not_at_head key all head next at h is within differs in
     let more : 0 < length all = omega arith in
     let front : Contains (take at all) head = head_in all head at h some more in
     let back : Contains (drop at all) next = place_in all next at is within in
-    let first : key_order key head.given next.given ≡ Less = then_before (key_order key head.given next.given) differs (key_not_after key head.given next.given (ordered_pair at all head next ordered front back)) in
+    let first : key_order key head.given next.given ≡ Less =
+    then_before (key_order key head.given next.given) differs
+    (key_not_after key head.given next.given (ordered_pair at all head next ordered front back)) in
     record {
       some = some;
       within = omega arith;
       here = λ one other c d. alike_trans key one.given head.given other.given (alike_sym key head.given one.given (alike one c)) (alike other d);
       later = λ one other c d.
-          equal_less (key_order key) (key_order-total key) one.given head.given other.given (alike_equal key one.given head.given (alike_sym key head.given one.given (alike one c))) (after first other d);
+          equal_less (key_order key) (key_order-total key) one.given head.given other.given
+          (alike_equal key one.given head.given (alike_sym key head.given one.given (alike one c)))
+          (after first other d);
     }
   where
     after : key_order key head.given next.given ≡ Less → (other : Given) → Contains (drop at all) other → key_order key head.given other.given ≡ Less
@@ -120,17 +138,23 @@ run_ends key all head next at o ordered h is within alike order not =
     ]
 
 -- all are alike
-pub run_all : (key : Key) (all : List Given) (head : Given) (at : ℕ) → 0 < length all → length all ≤ at → ((e : Given) → Contains (take at all) e → AreAlike key head.given e.given) → IsRun key all (length all)
+pub run_all : (key : Key) (all : List Given) (head : Given) (at : ℕ) → 0 < length all → length all ≤ at
+    → ((e : Given) → Contains (take at all) e → AreAlike key head.given e.given) → IsRun key all (length all)
 run_all key all head at some end alike = record {
   some = some;
   within = omega arith;
   here = λ one other c d.
-      alike_trans key one.given head.given other.given (alike_sym key head.given one.given (alike one (turned_all all at one end (take_in (length all) all one c)))) (alike other (turned_all all at other end (take_in (length all) all other d)));
+      alike_trans key one.given head.given other.given
+      (alike_sym key head.given one.given (alike one (turned_all all at one end (take_in (length all) all one c))))
+      (alike other (turned_all all at other end (take_in (length all) all other d)));
   later = λ one other c d. absurd (Contains-none other (subst (λ l. Contains l other) (drop_all (length all) all (omega arith)) d));
 }
 
 -- one more that is alike
-pub alike_more : (key : Key) (all : List Given) (head next : Given) (at : ℕ) → next ≡ get_or all at next → at < length all → ((e : Given) → Contains (take at all) e → AreAlike key head.given e.given) → AreAlike key head.given next.given → (e : Given) → Contains (take (at + 1) all) e → AreAlike key head.given e.given
+pub alike_more : (key : Key) (all : List Given) (head next : Given) (at : ℕ) → next ≡ get_or all at next
+    → at < length all → ((e : Given) → Contains (take at all) e → AreAlike key head.given e.given)
+    → AreAlike key head.given next.given → (e : Given) → Contains (take (at + 1) all) e
+    → AreAlike key head.given e.given
 alike_more key all head next at is within alike here e c =
     elim (turn_of all at next e within is c) [
       | inl old ↦ alike e old
@@ -138,5 +162,6 @@ alike_more key all head next at is within alike here e c =
     ]
 
 -- the head is alike to itself
-pub alike_head : (key : Key) (all : List Given) (head : Given) → head ≡ get_or all 0 head → 0 < length all → (e : Given) → Contains (take 1 all) e → AreAlike key head.given e.given
+pub alike_head : (key : Key) (all : List Given) (head : Given) → head ≡ get_or all 0 head → 0 < length all
+    → (e : Given) → Contains (take 1 all) e → AreAlike key head.given e.given
 alike_head key all head is some = alike_more key all head head 0 is some (λ e c. absurd (Contains-none e c)) (alike_itself key head.given)

@@ -99,7 +99,8 @@ one_start_or_not given start c k = made (some_or_none (DiffersFrom start) (diffe
         alike_trans Whole one start other (alike_sym Whole start one (repeats none one d l)) (repeats none other e m))
 
 -- a record is inside where it is at or below the owner of one SOA
-pub inside_made : (given : List Record) (start r : Record) → Contains given start → start.kind ≡ soa → HasOneStart given → IsBelow r.owner start.owner → IsInside given r
+pub inside_made : (given : List Record) (start r : Record) → Contains given start → start.kind ≡ soa
+    → HasOneStart given → IsBelow r.owner start.owner → IsInside given r
 inside_made given start r c k all b other d l = below_same_top r.owner start.owner other.owner (all start other c d k l).0.0 b
 
 inside_or_not : (given : List Record) (start r : Record) → Contains given start → start.kind ≡ soa → HasOneStart given → Either (IsInside given r)
@@ -116,11 +117,15 @@ both_not : (P : Type 0) → Either P → ((P → ⊥) → ⊥) → P
 both_not P (inl p) h = p
 both_not P (inr not) h = absurd (h not)
 
-pub outside_or_inside : (given : List Record) (start : Record) → Contains given start → start.kind ≡ soa → HasOneStart given → HasFirst (λ r. ¬ IsInside given r) given ⊎ ((one : Record) → Contains given one → IsInside given one)
-outside_or_inside given start c k all = elim (first_or_none (λ r. ¬ IsInside given r) (λ r. opposite (IsInside given r) (inside_or_not given start r c k all)) given) [
-  | inl f ↦ inl f
-  | inr none ↦ inr (λ one d. both_not (IsInside given one) (inside_or_not given start one c k all) (none one d))
-]
+pub outside_or_inside : (given : List Record) (start : Record) → Contains given start → start.kind ≡ soa
+    → HasOneStart given → HasFirst (λ r. ¬ IsInside given r) given
+    ⊎ ((one : Record) → Contains given one → IsInside given one)
+outside_or_inside given start c k all =
+    elim (first_or_none (λ r. ¬ IsInside given r)
+    (λ r. opposite (IsInside given r) (inside_or_not given start r c k all)) given) [
+      | inl f ↦ inl f
+      | inr none ↦ inr (λ one d. both_not (IsInside given one) (inside_or_not given start one c k all) (none one d))
+    ]
 
 -- an owner has a CNAME beside something else, or not
 abbrev IsBeside : Labels → Record → Record → Type 0
@@ -152,7 +157,9 @@ clashes_or_not given owner = elim (some_or_none (IsMixing given owner) (mixing_o
   | inr none ↦ inr (λ (one, other, c, d, a, b, k, differ). none (one, c, (a, k, (other, d, (b, differ)))))
 ]
 
-unmixed_made : (given : List Record) → HasNone (λ r. Clashes given r.owner) given → (one other : Record) → Contains given one → Contains given other → one.kind ≡ cname → AreSame one.owner other.owner → AreRepeats one other
+unmixed_made : (given : List Record) → HasNone (λ r. Clashes given r.owner) given → (one other : Record)
+    → Contains given one → Contains given other → one.kind ≡ cname → AreSame one.owner other.owner
+    → AreRepeats one other
 unmixed_made given none one other c d k same =
     both_not (AreRepeats one other) (repeats_or_not one other) (λ differ. none one c (one, other, c, d, refl, sym same, k, differ))
 

@@ -1,5 +1,6 @@
 -- Given records as entries, and entries that were sorted.
-use Rattle.std.proofs.Common.{◌≡◌, ◌≢◌, inl, inr, ℕ, zero, suc, ◌+◌, ◌<◌, ◌≤◌, List, [], ◌∷◌, ◌++◌, length, take, get_or, refl, sym, ap, subst, ◌∙◌, arith, false, is_lt, length-take}
+use Rattle.std.proofs.Common.{◌≡◌, ◌≢◌, inl, inr, ℕ, zero, suc, ◌+◌, ◌<◌, ◌≤◌, List, [], ◌∷◌, ◌++◌, length, take}
+use Rattle.std.proofs.Common.{get_or, refl, sym, ap, subst, ◌∙◌, arith, false, is_lt, length-take}
 use Rattle.std.specs.Prelude.{Contains}
 use Rattle.std.specs.List.Sorted.{IsPermutation, IsSortedBy}
 use Rattle.std.specs.declared.cmp.Ordering.{Ordering}
@@ -27,7 +28,9 @@ not_less_back one other not e =
 
 sorted_is_far : (xs : List Given) → IsSortedBy (λ (a b : Given). is_lt (entry_order a b)) xs → IsFar xs
 sorted_is_far xs sorted i j d h k =
-    not_less_back (get_or xs i d) (get_or xs j d) (sorted_far (λ (a b : Given). is_lt (entry_order a b)) (ranks_by entry_order-total (λ (g : Given). g)) xs sorted i j d h k)
+    not_less_back (get_or xs i d) (get_or xs j d)
+    (sorted_far (λ (a b : Given). is_lt (entry_order a b))
+    (ranks_by entry_order-total (λ (g : Given). g)) xs sorted i j d h k)
 
 -- what comes after the head of sorted entries
 after_head : (x : Given) (xs : List Given) → IsFar (x ∷ xs) → (y : Given) → Contains xs y → entry_order x y ≢ Greater
@@ -36,7 +39,8 @@ after_head x xs far y (k, l, e) = subst (λ (g : Given). entry_order x g ≢ Gre
 ordered_far : (xs : List Given) → IsFar xs → IsOrdered xs
 ordered_far [] far = tt
 ordered_far (x ∷ xs) far = (
-  AllByRecursion-made (λ (next : Given). order_of x.given next.given ≢ Greater) xs (λ y c. then_front (order_of x.given y.given) (nat_cmp x.place y.place) (after_head x xs far y c)),
+  AllByRecursion-made (λ (next : Given). order_of x.given next.given ≢ Greater) xs
+      (λ y c. then_front (order_of x.given y.given) (nat_cmp x.place y.place) (after_head x xs far y c)),
   ordered_far xs (λ i j d h k. far (suc i) (suc j) d (omega arith) (omega arith)),
 )
 
@@ -48,7 +52,8 @@ not_greater n m Greater is not = absurd (not refl)
 -- repeats that are in order are in that of their places
 placed : (one other : Given) → entry_order one other ≢ Greater → AreRepeats one.given other.given → one.place ≤ other.place
 placed one other not same =
-    let e : entry_order one other ≡ nat_cmp one.place other.place = ap (λ o. ordering_then o (nat_cmp one.place other.place)) (alike_equal Whole one.given other.given same) in
+    let e : entry_order one other ≡ nat_cmp one.place other.place =
+    ap (λ o. ordering_then o (nat_cmp one.place other.place)) (alike_equal Whole one.given other.given same) in
     not_greater one.place other.place (nat_cmp one.place other.place) refl (λ g. not (e ∙ g))
 
 stable_far : (xs : List Given) → IsFar xs → IsStable xs
@@ -77,17 +82,20 @@ givens_from-append place (x ∷ xs) y =
     ap (λ l. entry place x ∷ l) (givens_from-append (place + 1) xs y ∙ ap (λ n. givens_from (place + 1) xs ++ entry n y ∷ []) e)
 
 -- one more record in its turn
-pub givens_next : (xs : List Record) (i : ℕ) (x : Record) → i < length xs → x ≡ get_or xs i x → givens_from 0 (take i xs) ++ entry i x ∷ [] ≡ givens_from 0 (take (i + 1) xs)
+pub givens_next : (xs : List Record) (i : ℕ) (x : Record) → i < length xs → x ≡ get_or xs i x
+    → givens_from 0 (take i xs) ++ entry i x ∷ [] ≡ givens_from 0 (take (i + 1) xs)
 givens_next xs i x within is =
     let size : 0 + length (take i xs) ≡ i = omega (arith, length-take i xs) in
-    ap (λ n. givens_from 0 (take i xs) ++ entry n x ∷ []) (sym size) ∙ sym (givens_from-append 0 (take i xs) x) ∙ ap (givens_from 0) (ap (λ y. take i xs ++ y ∷ []) is ∙ sym (take_more xs i x within))
+    ap (λ n. givens_from 0 (take i xs) ++ entry n x ∷ []) (sym size) ∙ sym (givens_from-append 0 (take i xs) x)
+    ∙ ap (givens_from 0) (ap (λ y. take i xs ++ y ∷ []) is ∙ sym (take_more xs i x within))
 
 pub length-givens_from : (place : ℕ) (xs : List Record) → length (givens_from place xs) ≡ length xs
 length-givens_from place [] = refl
 length-givens_from place (x ∷ xs) = ap suc (length-givens_from (place + 1) xs)
 
 -- an entry stands for the record at its place
-given_at : (place : ℕ) (xs : List Record) (e : Given) → Contains (givens_from place xs) e → (k : ℕ) × (k < length xs) × (e.place ≡ place + k) × (get_or xs k e.given ≡ e.given)
+given_at : (place : ℕ) (xs : List Record) (e : Given) → Contains (givens_from place xs) e
+    → (k : ℕ) × (k < length xs) × (e.place ≡ place + k) × (get_or xs k e.given ≡ e.given)
 given_at place [] e c = absurd (Contains-none e c)
 given_at place (x ∷ xs) e c = elim (head_or_after (record { place = place; given = x }) (givens_from (place + 1) xs) e c) [
   | inl here ↦ (0, omega arith, ap (λ (g : Given). g.place) here ∙ omega arith, sym (ap (λ (g : Given). g.given) here))
@@ -98,14 +106,19 @@ given_at place (x ∷ xs) e c = elim (head_or_after (record { place = place; giv
       (suc r.0, omega arith, omega arith, r.3)
 ]
 
-at_given : (place : ℕ) (xs : List Record) (k : ℕ) (x : Record) → k < length xs → get_or xs k x ≡ x → Contains (givens_from place xs) (record { place = place + k; given = x })
+at_given : (place : ℕ) (xs : List Record) (k : ℕ) (x : Record) → k < length xs → get_or xs k x ≡ x
+    → Contains (givens_from place xs) (record { place = place + k; given = x })
 at_given place [] k x h is = absurd (omega arith)
 at_given place (y ∷ xs) zero x h is =
     let e : place ≡ place + 0 = omega arith in
-    subst (λ (z : Record). Contains (givens_from place (y ∷ xs)) (record { place = place + 0; given = z })) is (subst (λ n. Contains (givens_from place (y ∷ xs)) (record { place = n; given = y })) e (Contains-head (record { place = place; given = y }) (givens_from (place + 1) xs)))
+    subst (λ (z : Record). Contains (givens_from place (y ∷ xs)) (record { place = place + 0; given = z })) is
+    (subst (λ n. Contains (givens_from place (y ∷ xs)) (record { place = n; given = y })) e
+    (Contains-head (record { place = place; given = y }) (givens_from (place + 1) xs)))
 at_given place (y ∷ xs) (suc k) x h is =
     let e : place + 1 + k ≡ place + suc k = omega arith in
-    subst (λ n. Contains (givens_from place (y ∷ xs)) (record { place = n; given = x })) e (Contains-after (record { place = place; given = y }) (givens_from (place + 1) xs) (record { place = place + 1 + k; given = x }) (at_given (place + 1) xs k x (omega arith) is))
+    subst (λ n. Contains (givens_from place (y ∷ xs)) (record { place = n; given = x })) e
+    (Contains-after (record { place = place; given = y }) (givens_from (place + 1) xs)
+    (record { place = place + 1 + k; given = x }) (at_given (place + 1) xs k x (omega arith) is))
 
 -- the records as entries, in any order
 pub are_givens : (given : List Record) (entries : List Given) → IsPermutation (givens_from 0 given) entries → AreGivens given entries
@@ -116,5 +129,7 @@ are_givens given entries moved = record {
       (subst (λ k. k < length given) p r.1, subst (λ k. get_or given k e.given ≡ e.given) p r.3);
   all = λ k one h is.
       let e : 0 + k ≡ k = omega arith in
-      Contains-permutation (givens_from 0 given) entries _ moved (subst (λ n. Contains (givens_from 0 given) (record { place = n; given = one })) e (at_given 0 given k one h is));
+      Contains-permutation (givens_from 0 given) entries _ moved
+      (subst (λ n. Contains (givens_from 0 given) (record { place = n; given = one })) e
+      (at_given 0 given k one h is));
 }

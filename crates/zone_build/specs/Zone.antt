@@ -83,7 +83,8 @@ pub record IsValid (zone : Zone) : Type 0 where
   -- a set has one TTL (RFC 2181, 5.2)
   pub ttl : (one other : Record) → Contains zone.records one → Contains zone.records other → AreOneSet one other → one.ttl ≡ other.ttl
   -- nothing else stands where a CNAME stands (RFC 1034, 3.6.2)
-  pub alias : (one other : Record) → Contains zone.records one → Contains zone.records other → one.kind ≡ cname → AreSame one.owner other.owner → AreRepeats one other
+  pub alias : (one other : Record) → Contains zone.records one → Contains zone.records other → one.kind ≡ cname
+      → AreSame one.owner other.owner → AreRepeats one other
   -- no wildcard is delegated
   pub cuts : (one : Record) → Contains zone.records one → one.kind ≡ ns → ¬ IsWildcard one.owner
   -- no set is too large

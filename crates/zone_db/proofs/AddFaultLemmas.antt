@@ -21,7 +21,8 @@ one_add_fault zones zone add.Memory add.SameApex a b = absurd (a.0 b)
 one_add_fault zones zone add.Memory add.Full a b = absurd (a.1 b.1)
 one_add_fault zones zone add.Memory add.Memory a b = refl
 
-pub no_add_fault : (zones : List Zone) (zone : Zone) (f : AddFault) → ¬ HoldsApex zones zone.apex → ¬ IsFull zones zone → IsAddFault zones zone f → f ≡ add.Memory
+pub no_add_fault : (zones : List Zone) (zone : Zone) (f : AddFault) → ¬ HoldsApex zones zone.apex → ¬ IsFull zones zone
+    → IsAddFault zones zone f → f ≡ add.Memory
 no_add_fault zones zone add.SameApex apart fits h = absurd (apart h)
 no_add_fault zones zone add.Full apart fits h = absurd (fits h.1)
 no_add_fault zones zone add.Memory apart fits h = refl
@@ -40,7 +41,12 @@ holds_or_not (zone ∷ zones) apex = both (same_or_not zone.apex apex) (holds_or
     ])
 
 full_or_not : (n m : ℕ) → Either ((64 ≤ n) ⊎ (400_000 < m))
-full_or_not n m = elim (many n) [ inl h ↦ inl (inl h) | inr not ↦ elim (much m) [ inl h ↦ inl (inr h) | inr not' ↦ inr (λ h. elim h [ inl a ↦ not a | inr b ↦ not' b ]) ] ]
+full_or_not n m =
+    elim (many n) [
+      | inl h ↦ inl (inl h)
+      | inr not ↦ elim
+          (much m) [ inl h ↦ inl (inr h) | inr not' ↦ inr (λ h. elim h [ inl a ↦ not a | inr b ↦ not' b ]) ]
+    ]
   where
     many : (k : ℕ) → Either (64 ≤ k)
     many k = grind arith
@@ -48,7 +54,9 @@ full_or_not n m = elim (many n) [ inl h ↦ inl (inl h) | inr not ↦ elim (much
     much : (k : ℕ) → Either (400_000 < k)
     much k = grind arith
 
-pub fits_or_fault : (zones : List Zone) (zone : Zone) → (¬ HoldsApex zones zone.apex × ¬ IsFull zones zone) ⊎ ((f : AddFault) × (f ≢ add.Memory) × IsAddFault zones zone f)
+pub fits_or_fault : (zones : List Zone) (zone : Zone)
+    → (¬ HoldsApex zones zone.apex × ¬ IsFull zones zone)
+    ⊎ ((f : AddFault) × (f ≢ add.Memory) × IsAddFault zones zone f)
 fits_or_fault zones zone = elim (holds_or_not zones zone.apex) [
   | inl h ↦ inr (add.SameApex, (λ e. cc), h)
   | inr apart ↦ elim (full_or_not (length zones) (record_count zones + length zone.records)) [

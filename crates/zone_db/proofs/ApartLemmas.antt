@@ -21,7 +21,8 @@ use Rattle.zone_db.proofs.OfferLemmas.{in_told, rule_has}
 use Rattle.zone_build.proofs.OrderLemmas.{bytes_cmp, bytes_cmp-equal, order_of-total, repeats_equal, then_equal, turned_equal}
 
 -- rising records that are equal in order are one
-rising_one : (records : List Record) → IsRising records → (one two : Record) → Contains records one → Contains records two → order_of one two ≡ Equal → one ≡ two
+rising_one : (records : List Record) → IsRising records → (one two : Record) → Contains records one
+    → Contains records two → order_of one two ≡ Equal → one ≡ two
 rising_one [] rising one two h k e = absurd (Contains-none one h)
 rising_one (x ∷ records) rising one two h k e =
     by (λ c d. rising_one records rising.1 one two c d e) (head_or_after x records one h) (head_or_after x records two k)
@@ -40,7 +41,8 @@ rising_one (x ∷ records) rising one two h k e =
     by on (inr c) (inr d) = on c d
 
 -- so are rules in canonical order
-canonical_one : (records : List Record) → IsCanonical records → (one two : Record) → one.kind ≡ naptr → two.kind ≡ naptr → Contains records one → Contains records two → order_of one two ≡ Equal → one ≡ two
+canonical_one : (records : List Record) → IsCanonical records → (one two : Record) → one.kind ≡ naptr
+    → two.kind ≡ naptr → Contains records one → Contains records two → order_of one two ≡ Equal → one ≡ two
 canonical_one [] canonical one two p q h k e = absurd canonical
 canonical_one (start ∷ records) canonical one two p q h k e =
     by (head_or_after start records one h) (head_or_after start records two k)
@@ -61,7 +63,8 @@ same_rdata r s e =
     (then_equal (nat_cmp r.preference s.preference) (bytes_cmp (rdata r) (rdata s)) (then_equal (nat_cmp r.order s.order) _ e))
 
 -- rules of a valid zone
-one_rule : (z : Zone) → IsValid z → (name : Labels) (r s : Naptr) → HasItem (map owned_of z.records) name (rule r) → HasItem (map owned_of z.records) name (rule s) → rank_of r s ≡ Equal → r ≡ s
+one_rule : (z : Zone) → IsValid z → (name : Labels) (r s : Naptr) → HasItem (map owned_of z.records) name (rule r)
+    → HasItem (map owned_of z.records) name (rule s) → rank_of r s ≡ Equal → r ≡ s
 one_rule z valid name r s h k e =
     let f = rule_has z name r valid h in
     let g = rule_has z name s valid k in

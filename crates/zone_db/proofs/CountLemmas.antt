@@ -13,12 +13,17 @@ counts [] z = omega arith
 counts (y ∷ zones) z = omega (arith, counts zones z)
 
 -- one more zone is counted
-pub count_zones_more : (zones : List Zone) (i : ℕ) (x : Zone) (n : ℕ) → i < length zones → x ≡ get_or zones i x → n ≡ rules_and_aliases (told (take i zones)) → n + rules_and_aliases_in (plain_of x).items ≡ rules_and_aliases (told (take (i + 1) zones))
+pub count_zones_more : (zones : List Zone) (i : ℕ) (x : Zone) (n : ℕ) → i < length zones → x ≡ get_or zones i x
+    → n ≡ rules_and_aliases (told (take i zones))
+    → n + rules_and_aliases_in (plain_of x).items ≡ rules_and_aliases (told (take (i + 1) zones))
 count_zones_more zones i x n within is h =
-    ap (λ m. m + rules_and_aliases_in (plain_of x).items) h ∙ sym (counts (told (take i zones)) (plain_of x)) ∙ ap rules_and_aliases (sym (next_of plain_of zones i x within is))
+    ap (λ m. m + rules_and_aliases_in (plain_of x).items) h ∙ sym (counts (told (take i zones)) (plain_of x))
+    ∙ ap rules_and_aliases (sym (next_of plain_of zones i x within is))
 
 -- and they are no more than the records
-pub few_more : (zones : List Zone) (i : ℕ) (x : Zone) (n m : ℕ) → AreZones zones → i < length zones → x ≡ get_or zones i x → n ≤ record_count (take i zones) → m ≤ length x.records → (n + m ≤ record_count (take (i + 1) zones)) × (n + m ≤ 400_000)
+pub few_more : (zones : List Zone) (i : ℕ) (x : Zone) (n m : ℕ) → AreZones zones → i < length zones
+    → x ≡ get_or zones i x → n ≤ record_count (take i zones) → m ≤ length x.records
+    → (n + m ≤ record_count (take (i + 1) zones)) × (n + m ≤ 400_000)
 few_more zones i x n m are within is h k =
     let most = are.records in
     let more = count_more zones i x within is in

@@ -1,5 +1,6 @@
 -- What is found in a zone, and in zones.
-use Rattle.std.proofs.Common.{◌≡◌, ◌⊎◌, inl, inr, ℕ, zero, suc, ◌<◌, ◌≤◌, List, [], ◌∷◌, ◌++◌, length, take, get_or, Option, Some, None, refl, sym, ap, subst, ◌∙◌, arith, length-append}
+use Rattle.std.proofs.Common.{◌≡◌, ◌⊎◌, inl, inr, ℕ, zero, suc, ◌<◌, ◌≤◌, List, [], ◌∷◌, ◌++◌, length, take, get_or}
+use Rattle.std.proofs.Common.{Option, Some, None, refl, sym, ap, subst, ◌∙◌, arith, length-append}
 use Rattle.std.specs.Prelude.{Contains}
 use Rattle.dns_name.specs.Name.{AreSame, IsBelow, folded_labels}
 use Rattle.naptr_data.specs.Zones.{Labels, Exists, Encloses, IsSource, star}
@@ -16,7 +17,9 @@ use Rattle.zone_db.specs.declared.found.Found.TheVariants as found
 use Rattle.zone_build.proofs.ListLemmas.{AllByRecursion-contains, only_one}
 
 -- what is answered at a source is what is found
-pub answered_found : (zone : Zone) (name source : Labels) (asked : ℕ) (f : Found) → IsUncut zone name → IsSource (plain_of zone) name source → Exists (plain_of zone) source → IsAnswer zone source asked f → IsFoundIn zone name asked f
+pub answered_found : (zone : Zone) (name source : Labels) (asked : ℕ) (f : Found) → IsUncut zone name
+    → IsSource (plain_of zone) name source → Exists (plain_of zone) source → IsAnswer zone source asked f
+    → IsFoundIn zone name asked f
 answered_found zone name source asked found.Outside u s e a = absurd a
 answered_found zone name source asked (found.Cut set) u s e a = absurd a
 answered_found zone name source asked (found.NoName start) u s e a = absurd a
@@ -31,11 +34,13 @@ pub encloser_of : (zone : Zone) (name encloser : Labels) → ¬ Exists (plain_of
 encloser_of zone name encloser not (e, inl same) = absurd (not (subst (Exists (plain_of zone)) same e))
 encloser_of zone name encloser not (e, inr (none, en)) = en
 
-pub wildcard_source : (zone : Zone) (name encloser source : Labels) → ¬ Exists (plain_of zone) name → IsClosest zone name encloser → source ≡ star ∷ encloser → IsSource (plain_of zone) name source
+pub wildcard_source : (zone : Zone) (name encloser source : Labels) → ¬ Exists (plain_of zone) name
+    → IsClosest zone name encloser → source ≡ star ∷ encloser → IsSource (plain_of zone) name source
 wildcard_source zone name encloser source not c is = inr (not, (encloser, encloser_of zone name encloser not c, is))
 
 -- what is found in the zone that decides is what is found in the zones
-pub found_of : (zones : List Zone) (zone : Zone) (name : Labels) (asked : ℕ) (f : Found) → Decides zones name zone → IsFoundIn zone name asked f → IsFound zones name asked f
+pub found_of : (zones : List Zone) (zone : Zone) (name : Labels) (asked : ℕ) (f : Found) → Decides zones name zone
+    → IsFoundIn zone name asked f → IsFound zones name asked f
 found_of zones zone name asked found.Outside d h = absurd h
 found_of zones zone name asked (found.Cut set) d (owner, highest, s) = (zone, owner, d, highest, s)
 found_of zones zone name asked (found.NoName start) d (source, u, s, not, is) =
@@ -54,7 +59,8 @@ among_zones zones more zone c = elim (Contains-append_cases zones (more ∷ []) 
 pub deciding_none : (name : Labels) → IsDeciding [] name None
 deciding_none name zone c b = Contains-none zone c
 
-pub deciding_passed : (zones : List Zone) (name : Labels) (best : Option Zone) (more : Zone) → ¬ IsBelow name more.apex → IsDeciding zones name best → IsDeciding (zones ++ more ∷ []) name best
+pub deciding_passed : (zones : List Zone) (name : Labels) (best : Option Zone) (more : Zone) → ¬ IsBelow name more.apex
+    → IsDeciding zones name best → IsDeciding (zones ++ more ∷ []) name best
 deciding_passed zones name None more not none = λ z c b. elim (among_zones zones more z c) [
   | inl old ↦ none z old b
   | inr new ↦ not (subst (λ (y : Zone). IsBelow name y.apex) new b)
@@ -68,7 +74,8 @@ deciding_passed zones name (Some zone) more not d = record {
   ];
 }
 
-pub deciding_first : (zones : List Zone) (name : Labels) (more : Zone) → IsBelow name more.apex → IsDeciding zones name None → IsDeciding (zones ++ more ∷ []) name (Some more)
+pub deciding_first : (zones : List Zone) (name : Labels) (more : Zone) → IsBelow name more.apex
+    → IsDeciding zones name None → IsDeciding (zones ++ more ∷ []) name (Some more)
 deciding_first zones name more b none = record {
   among = Contains-append_right zones (more ∷ []) more (Contains-head more []);
   above = b;
@@ -79,7 +86,8 @@ longer_or_not : (n m : ℕ) → (n < m) ⊎ (m ≤ n)
 longer_or_not n m = grind arith
 
 -- one that is above the best so far is shorter, for they have not the same apex
-pub deciding_kept : (zones : List Zone) (name : Labels) (zone more : Zone) → ¬ AreSame zone.apex more.apex → IsBelow zone.apex more.apex → IsDeciding zones name (Some zone) → IsDeciding (zones ++ more ∷ []) name (Some zone)
+pub deciding_kept : (zones : List Zone) (name : Labels) (zone more : Zone) → ¬ AreSame zone.apex more.apex
+    → IsBelow zone.apex more.apex → IsDeciding zones name (Some zone) → IsDeciding (zones ++ more ∷ []) name (Some zone)
 deciding_kept zones name zone more apart below d = record {
   among = Contains-append_left zones (more ∷ []) zone d.among;
   above = d.above;
@@ -94,7 +102,9 @@ deciding_kept zones name zone more apart below d = record {
     shorter one other not (l ∷ front, back, parts, same) =
         omega (arith, ap length parts, length-append front back, length_same back other same)
 
-pub deciding_longer : (zones : List Zone) (name : Labels) (zone more : Zone) → IsBelow name more.apex → ¬ IsBelow zone.apex more.apex → IsDeciding zones name (Some zone) → IsDeciding (zones ++ more ∷ []) name (Some more)
+pub deciding_longer : (zones : List Zone) (name : Labels) (zone more : Zone) → IsBelow name more.apex
+    → ¬ IsBelow zone.apex more.apex → IsDeciding zones name (Some zone)
+    → IsDeciding (zones ++ more ∷ []) name (Some more)
 deciding_longer zones name zone more b not d = record {
   among = Contains-append_right zones (more ∷ []) more (Contains-head more []);
   above = b;
@@ -117,11 +127,13 @@ deciding_longer zones name zone more b not d = record {
     ]
 
 -- no two zones of a set have the same apex
-pub apart_pair : (zones : List Zone) (at : ℕ) (zone more : Zone) → AreApart zones → at < length zones → more ≡ get_or zones at more → Contains (take at zones) zone → ¬ AreSame zone.apex more.apex
+pub apart_pair : (zones : List Zone) (at : ℕ) (zone more : Zone) → AreApart zones → at < length zones
+    → more ≡ get_or zones at more → Contains (take at zones) zone → ¬ AreSame zone.apex more.apex
 apart_pair [] at zone more apart within is c same = absurd (omega arith)
 apart_pair (z ∷ zones) zero zone more apart within is c same = Contains-none zone c
 apart_pair (z ∷ zones) (suc at) zone more apart within is c same = elim (head_or_after z (take at zones) zone c) [
   | inl here ↦
-      AllByRecursion-contains (λ (other : Zone). ¬ AreSame other.apex z.apex) zones more apart.0 (at, omega arith, sym is) (sym same ∙ ap (λ (y : Zone). folded_labels y.apex) here)
+      AllByRecursion-contains (λ (other : Zone). ¬ AreSame other.apex z.apex) zones more apart.0
+      (at, omega arith, sym is) (sym same ∙ ap (λ (y : Zone). folded_labels y.apex) here)
   | inr after ↦ apart_pair zones at zone more apart.1 (omega arith) is after same
 ]

@@ -10,7 +10,8 @@ use Rattle.dns_wire.specs.declared.record.Record.{Record}
 use Rattle.zone_build.specs.Zone.{Zone, IsIn, IsSet, IsValid}
 use Rattle.zone_build.specs.Plain.{plain_of}
 use Rattle.zone_db.specs.Sets.{AreZones}
-use Rattle.zone_db.specs.LookUp.{Decides, IsHighestCut, HasKind, Answers, MeetsAlias, IsAnswered, IsStart, IsFound, Shown, outside, cut_of, alias_of, set_of, no_set, no_name, shown}
+use Rattle.zone_db.specs.LookUp.{Decides, IsHighestCut, HasKind, Answers, MeetsAlias, IsAnswered, IsStart, IsFound}
+use Rattle.zone_db.specs.LookUp.{Shown, outside, cut_of, alias_of, set_of, no_set, no_name, shown}
 use Rattle.zone_db.specs.Seeking.{IsUncut}
 use Rattle.zone_db.specs.declared.found.Found.{Found}
 use Rattle.zone_db.specs.declared.found.Found.TheVariants as found
@@ -61,7 +62,16 @@ found_shown zones name asked (found.NoName start) (zone, source, served, none, i
 found_shown zones name asked (found.Alias s) (zone, source, served, meets, is) =
     inr (zone, served.decides, inr (source, served.uncut, served.stands_for, inr (kind_exists zone source cname meets.0, inl (meets, (s.now, is, refl)))))
 found_shown zones name asked (found.Set s) (zone, source, kind, served, not, answered, is) =
-    inr (zone, served.decides, inr (source, served.uncut, served.stands_for, inr (kind_exists zone source kind answered.here, inr (not, inl (kind, s.now, answered, is, refl)))))
+    inr (
+      zone,
+      served.decides,
+      inr (
+        source,
+        served.uncut,
+        served.stands_for,
+        inr (kind_exists zone source kind answered.here, inr (not, inl (kind, s.now, answered, is, refl))),
+      ),
+    )
 found_shown zones name asked (found.NoSet start) (zone, source, served, exists, not, none, is) =
     inr (zone, served.decides, inr (source, served.uncut, served.stands_for, inr (exists, inr (not, inr (none, (start.now, is, refl))))))
 
@@ -81,12 +91,15 @@ below_each one other ([], back, parts, same) b = ap folded_labels parts ∙ same
 below_each one other (l ∷ front, back, parts, same) b =
     absurd (omega (arith, ap length parts, length-append front back, length_same back other same, length_below other one b))
 
-one_cut : (zone : Zone) (name one other : Labels) (records records' : List Record) → IsHighestCut zone name one → IsHighestCut zone name other → IsSet zone.records one ns records → IsSet zone.records other ns records' → records ≡ records'
+one_cut : (zone : Zone) (name one other : Labels) (records records' : List Record) → IsHighestCut zone name one
+    → IsHighestCut zone name other → IsSet zone.records one ns records → IsSet zone.records other ns records'
+    → records ≡ records'
 one_cut zone name one other records records' a b s t =
     let r = a.cut.0 in
     let here : IsIn one ns r = a.cut.2 in
     let same : AreSame one other = below_each one other (b.highest one a.cut a.above) (a.highest other b.cut b.above) in
-    one_set zone.records r.owner r.kind records records' (set_same_name zone.records one ns r records here s) (set_same_name zone.records other ns r records' (here.0 ∙ same, here.1) t)
+    one_set zone.records r.owner r.kind records records' (set_same_name zone.records one ns r records here s)
+    (set_same_name zone.records other ns r records' (here.0 ∙ same, here.1) t)
 
 one_kind : (zone : Zone) (source : Labels) (asked kind kind' : ℕ) → IsAnswered zone source asked kind → IsAnswered zone source asked kind' → kind ≡ kind'
 one_kind zone source asked kind kind' a b =
@@ -94,7 +107,8 @@ one_kind zone source asked kind kind' a b =
     let high = b.least kind a.here a.answers in
     omega (arith, low, high)
 
-one_there : (zone : Zone) (source : Labels) (asked : ℕ) (s t : Shown) → IsValid zone → IsShownThere zone source asked s → IsShownThere zone source asked t → s ≡ t
+one_there : (zone : Zone) (source : Labels) (asked : ℕ) (s t : Shown) → IsValid zone → IsShownThere zone source asked s
+    → IsShownThere zone source asked t → s ≡ t
 one_there zone source asked s t valid (inl (kind, records, answered, is, e)) (inl (kind', records', answered', is', e')) =
     let kinds : kind ≡ kind' = one_kind zone source asked kind kind' answered answered' in
     e ∙ ap set_of (one_set zone.records source kind' records records' (subst (λ k. IsSet zone.records source k records) kinds is) is') ∙ sym e'
@@ -103,7 +117,8 @@ one_there zone source asked s t valid (inr (none, more)) (inl (kind, records, an
 one_there zone source asked s t valid (inr (none, (start, is, e))) (inr (none', (start', is', e'))) =
     e ∙ ap no_set (one_start zone start start' valid is is') ∙ sym e'
 
-one_where : (zone : Zone) (source : Labels) (asked : ℕ) (s t : Shown) → IsValid zone → IsShownWhere zone source asked s → IsShownWhere zone source asked t → s ≡ t
+one_where : (zone : Zone) (source : Labels) (asked : ℕ) (s t : Shown) → IsValid zone → IsShownWhere zone source asked s
+    → IsShownWhere zone source asked t → s ≡ t
 one_where zone source asked s t valid (inl (meets, (records, is, e))) (inl (meets', (records', is', e'))) =
     e ∙ ap alias_of (one_set zone.records source cname records records' is is') ∙ sym e'
 one_where zone source asked s t valid (inl (meets, more)) (inr (not, more')) = absurd (not meets)
@@ -133,6 +148,7 @@ one_shown zones name asked s t are (inr (zone, d, more)) (inr (zone', d', more')
     let valid : IsValid zone' = AllByRecursion-contains IsValid zones zone' are.each d'.among in
     one_in zone' name asked s t valid (subst (λ (z : Zone). IsShownIn z name asked s) (one_zone zones name zone zone' d d') more) more'
 
-pub one_found : (zones : List Zone) (name : Labels) (asked : ℕ) (one other : Found) → AreZones zones → IsFound zones name asked one → IsFound zones name asked other → shown one ≡ shown other
+pub one_found : (zones : List Zone) (name : Labels) (asked : ℕ) (one other : Found) → AreZones zones
+    → IsFound zones name asked one → IsFound zones name asked other → shown one ≡ shown other
 one_found zones name asked one other are a b =
     one_shown zones name asked (shown one) (shown other) are (found_shown zones name asked one a) (found_shown zones name asked other b)

@@ -1,5 +1,6 @@
 -- The rules of a set are in order as they stand.
-use Rattle.std.proofs.Common.{◌≡◌, ◌≢◌, ◌⊎◌, inl, inr, ℕ, zero, suc, ◌+◌, ◌<◌, ◌≤◌, List, [], ◌∷◌, ◌++◌, length, take, drop, get_or, refl, sym, ap, subst, ◌∙◌, arith, length-append}
+use Rattle.std.proofs.Common.{◌≡◌, ◌≢◌, ◌⊎◌, inl, inr, ℕ, zero, suc, ◌+◌, ◌<◌, ◌≤◌, List, [], ◌∷◌, ◌++◌, length, take}
+use Rattle.std.proofs.Common.{drop, get_or, refl, sym, ap, subst, ◌∙◌, arith, length-append}
 use Rattle.std.specs.Prelude.{Contains, ◌↔◌}
 use Rattle.std.specs.List.{AllByRecursion}
 use Rattle.std.specs.declared.cmp.Ordering.TheVariants.{Less}
@@ -28,7 +29,10 @@ use Rattle.zone_db.specs.Offering.{IsPushed, RdataRises}
 -- RDATA of records of one set
 rdata_less : (x y : Record) → AreOneSet x y → order_of x y ≡ Less → bytes_cmp (rdata_of x.content) (rdata_of y.content) ≡ Less
 rdata_less x y a less =
-    sym (ap (λ o. ordering_then o (ordering_then (nat_cmp x.kind y.kind) (bytes_cmp (rdata_of x.content) (rdata_of y.content)))) (ap (λ n. bytes_cmp (wire_of (folded_labels x.owner)) (wire_of n)) (sym a.0) ∙ tied_itself nat_list_cmp_total (wire_of (folded_labels x.owner)))
+    sym (ap (λ o. ordering_then o
+    (ordering_then (nat_cmp x.kind y.kind) (bytes_cmp (rdata_of x.content) (rdata_of y.content))))
+    (ap (λ n. bytes_cmp (wire_of (folded_labels x.owner)) (wire_of n)) (sym a.0)
+    ∙ tied_itself nat_list_cmp_total (wire_of (folded_labels x.owner)))
     ∙ ap (λ o. ordering_then o (bytes_cmp (rdata_of x.content) (rdata_of y.content))) (ap (nat_cmp x.kind) (sym a.1) ∙ tied_itself nat_cmp_total x.kind))
     ∙ less
 
@@ -38,7 +42,9 @@ set_rises owner kind [] rest r each = tt
 set_rises owner kind (x ∷ set) rest r each = (
   AllByRecursion-made (λ next. bytes_cmp (rdata_of x.content) (rdata_of next.content) ≡ Less) set (λ y c.
       let i = AllByRecursion-contains (IsIn owner kind) set y each.1 c in
-      rdata_less x y (each.0.0 ∙ sym i.0, each.0.1 ∙ sym i.1) (AllByRecursion-contains (λ (next : Record). order_of x next ≡ Less) (set ++ rest) y r.0 (Contains-append_left set rest y c))),
+      rdata_less x y (each.0.0 ∙ sym i.0, each.0.1 ∙ sym i.1)
+      (AllByRecursion-contains (λ (next : Record). order_of x next ≡ Less) (set ++ rest) y r.0
+      (Contains-append_left set rest y c))),
   set_rises owner kind set rest r.1 each.1,
 )
 
@@ -55,7 +61,8 @@ rdata_rises records owner kind set c s = by s.before set (subst IsCanonical s.pa
     by [] [] c each = tt
     by [] (x ∷ set) c each = set_rises owner kind (x ∷ set) [] (alone x set c each) each
       where
-        alone : (x : Record) (set : List Record) → IsCanonical (x ∷ (set ++ s.after)) → AllByRecursion (IsIn owner kind) (x ∷ set) → zone.IsRising ((x ∷ set) ++ [])
+        alone : (x : Record) (set : List Record) → IsCanonical (x ∷ (set ++ s.after))
+            → AllByRecursion (IsIn owner kind) (x ∷ set) → zone.IsRising ((x ∷ set) ++ [])
         alone x [] c each = (tt, tt)
         alone x (y ∷ set) c each = absurd (c.1.0 (each.1.0.1 ∙ sym each.0.1 ∙ c.0))
 
@@ -99,7 +106,10 @@ rule_or_not (content.Raw bytes) = inr (λ r e. cc)
 one_rule : (r s : Naptr) → content.Naptr r ≡ content.Naptr s → r ≡ s
 one_rule r s e = cc
 
-pub has_more : (taken : List Record) (x : Record) (old new : List Naptr) → HasRulesOf taken old → IsPushed x.content old new → ((y : Record) → Contains taken y → bytes_cmp (rdata_of y.content) (rdata_of x.content) ≡ Less) → HasRulesOf (taken ++ x ∷ []) new
+pub has_more : (taken : List Record) (x : Record) (old new : List Naptr) → HasRulesOf taken old
+    → IsPushed x.content old new
+    → ((y : Record) → Contains taken y → bytes_cmp (rdata_of y.content) (rdata_of x.content) ≡ Less)
+    → HasRulesOf (taken ++ x ∷ []) new
 has_more taken x old new h p before = elim (rule_or_not x.content) [
   | inr not ↦
       subst (HasRulesOf (taken ++ x ∷ [])) (sym (p.other not)) (record {
@@ -134,26 +144,38 @@ has_more taken x old new h p before = elim (rule_or_not x.content) [
           );
           rising = rising_push old r h.are.rising (λ s c.
               let f = (h.are.each s).0 c in
-              rank_is_rdata s r (h.fields s c) q.1 ∙ ap (λ said. bytes_cmp said (rdata r)) (ap rdata_of (sym f.2)) ∙ ap (λ said. bytes_cmp (rdata_of f.0.content) (rdata_of said)) (sym is) ∙ before f.0 f.1);
+              rank_is_rdata s r (h.fields s c) q.1 ∙ ap (λ said. bytes_cmp said (rdata r)) (ap rdata_of (sym f.2))
+              ∙ ap (λ said. bytes_cmp (rdata_of f.0.content) (rdata_of said)) (sym is) ∙ before f.0 f.1);
         };
-        fields = λ rule c. elim (Contains-append_cases old (r ∷ []) rule c) [ inl was ↦ h.fields rule was | inr new ↦ subst IsRule (sym (only_one r rule new)) q.1 ];
+        fields = λ rule c. elim
+            (Contains-append_cases old (r ∷ []) rule c) [
+              | inl was ↦ h.fields rule was
+              | inr new ↦ subst IsRule
+                  (sym (only_one r rule new)) q.1
+            ];
         few = let f = h.few in omega (arith, f, length-append taken (x ∷ []), length-append old (r ∷ []));
       })
 ]
 
 -- a record comes after those before it
-rises_before : (set : List Record) (i : ℕ) (d y : Record) → RdataRises set → i < length set → Contains (take i set) y → bytes_cmp (rdata_of y.content) (rdata_of (get_or set i d).content) ≡ Less
+rises_before : (set : List Record) (i : ℕ) (d y : Record) → RdataRises set → i < length set → Contains (take i set) y
+    → bytes_cmp (rdata_of y.content) (rdata_of (get_or set i d).content) ≡ Less
 rises_before [] i d y r l c = absurd (omega arith)
 rises_before (x ∷ set) zero d y r l c = absurd (Contains-none y c)
 rises_before (x ∷ set) (suc i) d y r l c = elim (head_or_after x (take i set) y c) [
-  | inl here ↦ subst (λ (z : Record). bytes_cmp (rdata_of z.content) (rdata_of (get_or set i d).content) ≡ Less) (sym here) (AllByRecursion-contains (λ next. bytes_cmp (rdata_of x.content) (rdata_of next.content) ≡ Less) set (get_or set i d) r.0 (Contains-get_or set i d (omega arith)))
+  | inl here ↦ subst (λ (z : Record). bytes_cmp (rdata_of z.content) (rdata_of (get_or set i d).content) ≡ Less)
+      (sym here) (AllByRecursion-contains (λ next. bytes_cmp (rdata_of x.content) (rdata_of next.content) ≡ Less) set
+      (get_or set i d) r.0 (Contains-get_or set i d (omega arith)))
   | inr after ↦ rises_before set i d y r.1 (omega arith) after
 ]
 
-pub has_next : (set : List Record) (i : ℕ) (x : Record) (old new : List Naptr) → RdataRises set → i < length set → x ≡ get_or set i x → HasRulesOf (take i set) old → IsPushed x.content old new → HasRulesOf (take (i + 1) set) new
+pub has_next : (set : List Record) (i : ℕ) (x : Record) (old new : List Naptr) → RdataRises set → i < length set
+    → x ≡ get_or set i x → HasRulesOf (take i set) old → IsPushed x.content old new → HasRulesOf (take (i + 1) set) new
 has_next set i x old new r l is h p =
     subst (λ xs. HasRulesOf xs new) (ap (λ y. take i set ++ y ∷ []) is ∙ sym (take_more set i x l))
-    (has_more (take i set) x old new h p (λ y c. subst (λ (z : Record). bytes_cmp (rdata_of y.content) (rdata_of z.content) ≡ Less) (sym is) (rises_before set i x y r l c)))
+    (has_more (take i set) x old new h p
+    (λ y c. subst (λ (z : Record). bytes_cmp (rdata_of y.content) (rdata_of z.content) ≡ Less) (sym is)
+    (rises_before set i x y r l c)))
 
 pub has_all : (set : List Record) (i : ℕ) (rules : List Naptr) → length set ≤ i → HasRulesOf (take i set) rules → HasRulesOf set rules
 has_all set i rules end h = subst (λ xs. HasRulesOf xs rules) (take_all i set end) h

@@ -1,5 +1,6 @@
 -- Existing names, closest enclosers, cuts and answers of a zone.
-use Rattle.std.proofs.Common.{◌≡◌, ◌≢◌, ◌⊎◌, inl, inr, ℕ, suc, ◌+◌, ◌<◌, ◌≤◌, List, [], ◌∷◌, ◌++◌, length, map, get_or, Option, Some, None, refl, sym, ap, subst, ◌∙◌, arith, append_assoc, length-append}
+use Rattle.std.proofs.Common.{◌≡◌, ◌≢◌, ◌⊎◌, inl, inr, ℕ, suc, ◌+◌, ◌<◌, ◌≤◌, List, [], ◌∷◌, ◌++◌, length, map, get_or}
+use Rattle.std.proofs.Common.{Option, Some, None, refl, sym, ap, subst, ◌∙◌, arith, append_assoc, length-append}
 use Rattle.std.specs.Prelude.{Contains}
 use Rattle.std.specs.List.{flat_map}
 use Rattle.std.proofs.lemmas.List.Elements.{Contains-append_left, Contains-append_right, Contains-append_cases}
@@ -51,7 +52,8 @@ exists_cases zone name (inr (o, c, b)) =
     inr (f.0, f.1, subst (λ (x : Owned). IsBelow x.owner name) f.2 b)
 
 -- the name above one that does not exist is at or below the apex too
-pub above_inside : (zone : Zone) (name above : Labels) → Some above ≡ parent_of name → ¬ Exists (plain_of zone) name → IsBelow name zone.apex → IsBelow above zone.apex
+pub above_inside : (zone : Zone) (name above : Labels) → Some above ≡ parent_of name → ¬ Exists (plain_of zone) name
+    → IsBelow name zone.apex → IsBelow above zone.apex
 above_inside zone [] above is not b = absurd (cc)
 above_inside zone (label ∷ name) above is not b =
     let e : above ≡ name = cc in
@@ -69,7 +71,9 @@ pub shorter_above : (name above : Labels) → Some above ≡ parent_of name → 
 shorter_above [] above is = absurd (cc)
 shorter_above (label ∷ name) above is = let e : above ≡ name = cc in omega (arith, ap length e)
 
-pub closest_further : (zone : Zone) (name above closest : Labels) → Some above ≡ parent_of name → ¬ Exists (plain_of zone) name → IsBelow name zone.apex → IsClosest zone above closest → IsClosest zone name closest
+pub closest_further : (zone : Zone) (name above closest : Labels) → Some above ≡ parent_of name
+    → ¬ Exists (plain_of zone) name → IsBelow name zone.apex → IsClosest zone above closest
+    → IsClosest zone name closest
 closest_further zone [] above closest is not b c = absurd (cc)
 closest_further zone (label ∷ name) above closest is not b (exists, which) =
     let e : above ≡ name = cc in
@@ -111,12 +115,16 @@ length-wire : (label : List ℕ) (labels : Labels) → length (wire_of (label �
 length-wire label labels =
     ap (λ l. suc (length l)) (append_assoc label (flat_map label_wire labels) (0 ∷ [])) ∙ ap suc (length-append label (wire_of labels))
 
-pub wildcard_fits : (zone : Zone) (name encloser : Labels) → IsName name → Encloses (plain_of zone) name encloser → Some (star ∷ encloser) ≡ name_within (star ∷ encloser)
+pub wildcard_fits : (zone : Zone) (name encloser : Labels) → IsName name → Encloses (plain_of zone) name encloser
+    → Some (star ∷ encloser) ≡ name_within (star ∷ encloser)
 wildcard_fits zone name encloser h e =
-    let label : IsLabel e.label = AllByRecursion-contains IsLabel name e.label h.each (subst (λ n. Contains n e.label) (sym e.parts) (Contains-middle e.front e.label encloser)) in
+    let label : IsLabel e.label =
+    AllByRecursion-contains IsLabel name e.label h.each
+    (subst (λ n. Contains n e.label) (sym e.parts) (Contains-middle e.front e.label encloser)) in
     let some = label.some in
     let short = h.short in
-    let whole = ap (λ n. length (wire_of n)) e.parts ∙ ap length (sym (wire_of-append e.front (e.label ∷ encloser))) ∙ length-append (flat_map label_wire e.front) (wire_of (e.label ∷ encloser)) in
+    let whole = ap (λ n. length (wire_of n)) e.parts ∙ ap length (sym (wire_of-append e.front (e.label ∷ encloser)))
+    ∙ length-append (flat_map label_wire e.front) (wire_of (e.label ∷ encloser)) in
     name_within-fits (star ∷ encloser) (omega (arith, whole, length-wire e.label encloser, length-wire star encloser))
 
 -- the name above one that is below the apex is at or below the apex
@@ -151,7 +159,8 @@ under : (name above top : Labels) → Some above ≡ parent_of name → IsBelow 
 under [] above top is b = absurd (cc)
 under (label ∷ name) above top is b = let e : above ≡ name = cc in below_more label name top (subst (λ n. IsBelow n top) e b)
 
-pub cut_above : (records : List Record) (apex name above : Labels) (cut : Record) → Some above ≡ parent_of name → IsHighest records apex above (Some cut) → IsHighest records apex name (Some cut)
+pub cut_above : (records : List Record) (apex name above : Labels) (cut : Record) → Some above ≡ parent_of name
+    → IsHighest records apex above (Some cut) → IsHighest records apex name (Some cut)
 cut_above records apex name above cut is h = (
   h.0,
   (h.1.0, h.1.1, under name above cut.owner is h.1.2),
@@ -161,7 +170,9 @@ cut_above records apex name above cut is h = (
   ],
 )
 
-pub cut_here : (records : List Record) (apex name above : Labels) (here : Option Record) → Some above ≡ parent_of name → ¬ AreSame name apex → IsHighest records apex above None → IsNsAt records name here → IsHighest records apex name here
+pub cut_here : (records : List Record) (apex name above : Labels) (here : Option Record) → Some above ≡ parent_of name
+    → ¬ AreSame name apex → IsHighest records apex above None → IsNsAt records name here
+    → IsHighest records apex name here
 cut_here records apex name above None is not none lacking = λ one c k. elim (at_or_above name above one.owner is k.2) [
   | inl same ↦ lacking one c (sym same, k.0)
   | inr further ↦ none one c (k.0, k.1, further)
@@ -175,18 +186,21 @@ cut_here records apex name above (Some cut) is not none (c, i) = (
   ],
 )
 
-pub ns_first : (records set : List Record) (name : Labels) (d : Record) → IsSet records name ns set → 0 < length set → Contains records (get_or set 0 d) × IsIn name ns (get_or set 0 d)
+pub ns_first : (records set : List Record) (name : Labels) (d : Record) → IsSet records name ns set → 0 < length set
+    → Contains records (get_or set 0 d) × IsIn name ns (get_or set 0 d)
 ns_first records [] name d s some = absurd (omega arith)
 ns_first records (one ∷ rest) name d s some =
     (subst (λ l. Contains l one) (sym s.parts) (Contains-append_right s.before ((one ∷ rest) ++ s.after) one (Contains-head one (rest ++ s.after))), s.each.0)
 
 -- a set has a record of its name and kind, or none is there
-pub set_has : (records : List Record) (owner : Labels) (kind : ℕ) (set : List Record) → IsSet records owner kind set → 0 < length set → (one : Record) × Contains records one × IsIn owner kind one
+pub set_has : (records : List Record) (owner : Labels) (kind : ℕ) (set : List Record) → IsSet records owner kind set
+    → 0 < length set → (one : Record) × Contains records one × IsIn owner kind one
 set_has records owner kind [] s some = absurd (omega arith)
 set_has records owner kind (x ∷ set) s some =
     (x, subst (λ l. Contains l x) (sym s.parts) (Contains-append_right s.before ((x ∷ set) ++ s.after) x (Contains-head x (set ++ s.after))), s.each.0)
 
-pub set_none : (records : List Record) (owner : Labels) (kind : ℕ) (set : List Record) → IsSet records owner kind set → length set ≤ 0 → (one : Record) → Contains records one → ¬ IsIn owner kind one
+pub set_none : (records : List Record) (owner : Labels) (kind : ℕ) (set : List Record) → IsSet records owner kind set
+    → length set ≤ 0 → (one : Record) → Contains records one → ¬ IsIn owner kind one
 set_none records owner kind (x ∷ set) s none one c i = absurd (omega arith)
 set_none records owner kind [] s none one c i = elim (Contains-append_cases s.before s.after one (subst (λ l. Contains l one) s.parts c)) [
   | inl front ↦ AllByRecursion-contains (λ r. ¬ IsIn owner kind r) s.before one s.none_before front i
@@ -200,17 +214,21 @@ start_first (x ∷ rest) start c is =
     (subst (λ r. Contains (x ∷ rest) r) (sym is) (Contains-head x rest), ap (λ (r : Record). r.kind) is ∙ c.0)
 
 -- the least kind that answers
-pub least_of_all : (records : List Record) (source : Labels) (asked : ℕ) (least : Option ℕ) → asked ≡ every → IsLeastKindAt records source least → IsLeastKind records source asked least
+pub least_of_all : (records : List Record) (source : Labels) (asked : ℕ) (least : Option ℕ) → asked ≡ every
+    → IsLeastKindAt records source least → IsLeastKind records source asked least
 least_of_all records source asked None all none = λ one c same answers. none one c same
 least_of_all records source asked (Some kind) all h = ((h.0.0, h.0.1, h.0.2, h.0.3, inr all), λ one c same answers. h.1 one c same)
 
-pub least_of_one : (records : List Record) (source : Labels) (asked : ℕ) (set : List Record) → asked ≢ every → IsSet records source asked set → 0 < length set → IsLeastKind records source asked (Some asked)
+pub least_of_one : (records : List Record) (source : Labels) (asked : ℕ) (set : List Record) → asked ≢ every
+    → IsSet records source asked set → 0 < length set → IsLeastKind records source asked (Some asked)
 least_of_one records source asked set not s some =
     let f = set_has records source asked set s some in
     ((f.0, f.1, f.2.0, f.2.1, inl refl), λ one c same answers. elim answers [ inl is ↦ omega arith | inr all ↦ absurd (not all) ])
 
-pub least_of_none : (records : List Record) (source : Labels) (asked : ℕ) (set : List Record) → asked ≢ every → IsSet records source asked set → length set ≤ 0 → IsLeastKind records source asked None
-least_of_none records source asked set not s none one c same answers = elim answers [ inl is ↦ set_none records source asked set s none one c (same, sym is) | inr all ↦ not all ]
+pub least_of_none : (records : List Record) (source : Labels) (asked : ℕ) (set : List Record) → asked ≢ every
+    → IsSet records source asked set → length set ≤ 0 → IsLeastKind records source asked None
+least_of_none records source asked set not s none one c same answers =
+    elim answers [ inl is ↦ set_none records source asked set s none one c (same, sym is) | inr all ↦ not all ]
 
 -- what the least kind means
 pub is_answered : (zone : Zone) (source : Labels) (asked kind : ℕ) → IsLeastKind zone.records source asked (Some kind) → IsAnswered zone source asked kind
@@ -220,14 +238,17 @@ is_answered zone source asked kind (h, least) = record {
   least = λ other (one, c, i) answers. let l = least one c i.0 (subst (Answers asked) (sym i.1) answers) in let e = i.1 in omega (arith, l, e);
 }
 
-pub is_unanswered : (zone : Zone) (source : Labels) (asked : ℕ) → IsLeastKind zone.records source asked None → (kind : ℕ) → HasKind zone source kind → ¬ Answers asked kind
+pub is_unanswered : (zone : Zone) (source : Labels) (asked : ℕ) → IsLeastKind zone.records source asked None
+    → (kind : ℕ) → HasKind zone source kind → ¬ Answers asked kind
 is_unanswered zone source asked none kind (one, c, i) answers = none one c i.0 (subst (Answers asked) (sym i.1) answers)
 
 -- an alias is met, or not
-pub alias_met : (zone : Zone) (source : Labels) (asked : ℕ) (set : List Record) → IsSet zone.records source cname set → 0 < length set → ¬ Answers asked cname → MeetsAlias zone source asked
+pub alias_met : (zone : Zone) (source : Labels) (asked : ℕ) (set : List Record) → IsSet zone.records source cname set
+    → 0 < length set → ¬ Answers asked cname → MeetsAlias zone source asked
 alias_met zone source asked set s some not = (set_has zone.records source cname set s some, not)
 
-pub alias_lacking : (zone : Zone) (source : Labels) (asked : ℕ) (set : List Record) → IsSet zone.records source cname set → length set ≤ 0 → ¬ MeetsAlias zone source asked
+pub alias_lacking : (zone : Zone) (source : Labels) (asked : ℕ) (set : List Record)
+    → IsSet zone.records source cname set → length set ≤ 0 → ¬ MeetsAlias zone source asked
 alias_lacking zone source asked set s none ((one, c, i), not) = set_none zone.records source cname set s none one c i
 
 -- a cut-off name

@@ -1,5 +1,6 @@
 //! Laws of sets of zones, and of look-up in them.
-ghost use Rattle.zone_db.specs.Laws.{ZonesHaveOneAddFault, ZonesFitOrHaveAnAddFault, FittingZonesHaveNoAddFault, ZonesShowOneAnswer, FoundIsOffered, FoundIsReadable, ToldRulesAreApart};
+ghost use Rattle.zone_db.specs.Laws.{ZonesHaveOneAddFault, ZonesFitOrHaveAnAddFault, FittingZonesHaveNoAddFault};
+ghost use Rattle.zone_db.specs.Laws.{ZonesShowOneAnswer, FoundIsOffered, FoundIsReadable, ToldRulesAreApart};
 
 /// A zone fits into a set or has one fault by which it does not go into it, and none but `Memory` where it fits.
 pub fn one_add_fault()

@@ -10,7 +10,9 @@ groups-last zero quad text some is = absurd (omega arith)
 groups-last (suc more) quad text some is = rw is refl
 
 -- a group before others
-pub groups-step : (more : ℕ) (quad : Bool) (text part behind : List ℕ) → 0 < more → cut colon text ≡ Some (part, behind) → groups_of more quad text ≡ (group_of part >>= λ group. bytes_before group (groups_of (more - 1) quad behind))
+pub groups-step : (more : ℕ) (quad : Bool) (text part behind : List ℕ) → 0 < more
+    → cut colon text ≡ Some (part, behind)
+    → groups_of more quad text ≡ (group_of part >>= λ group. bytes_before group (groups_of (more - 1) quad behind))
 unfolding groups_of
 groups-step zero quad text part behind some is = absurd (omega arith)
 groups-step (suc more) quad text part behind some is =
@@ -22,22 +24,36 @@ none-left quad text = refl
 
 -- the loop over groups: what each of its ends and its step give
 
-pub loop_goes_on : (bytes now : List ℕ) (more : ℕ) (quad : Bool) (left rest text part group : List ℕ) → bytes_before bytes (groups_of more quad left) ≡ groups_of 8 quad text → 0 < more → cut colon left ≡ Some (part, rest) → group_of part ≡ Some group → now ≡ bytes ++ group → bytes_before now (groups_of (more - 1) quad rest) ≡ groups_of 8 quad text
+pub loop_goes_on : (bytes now : List ℕ) (more : ℕ) (quad : Bool) (left rest text part group : List ℕ)
+    → bytes_before bytes (groups_of more quad left) ≡ groups_of 8 quad text → 0 < more
+    → cut colon left ≡ Some (part, rest) → group_of part ≡ Some group → now ≡ bytes ++ group
+    → bytes_before now (groups_of (more - 1) quad rest) ≡ groups_of 8 quad text
 loop_goes_on bytes now more quad left rest text part group same some is read pushed =
-    let step : groups_of more quad left ≡ bytes_before group (groups_of (more - 1) quad rest) = groups-step more quad left part rest some is ∙ ap (λ o. o >>= λ g. bytes_before g (groups_of (more - 1) quad rest)) read in
+    let step : groups_of more quad left ≡ bytes_before group (groups_of (more - 1) quad rest) =
+    groups-step more quad left part rest some is
+    ∙ ap (λ o. o >>= λ g. bytes_before g (groups_of (more - 1) quad rest)) read in
     rw pushed (sym (before-before bytes group (groups_of (more - 1) quad rest)) ∙ ap (bytes_before bytes) (sym step) ∙ same)
 
-pub loop_breaks : (bytes : List ℕ) (more : ℕ) (quad : Bool) (left rest text part : List ℕ) → bytes_before bytes (groups_of more quad left) ≡ groups_of 8 quad text → 0 < more → cut colon left ≡ Some (part, rest) → group_of part ≡ None → None ≡ groups_of 8 quad text
+pub loop_breaks : (bytes : List ℕ) (more : ℕ) (quad : Bool) (left rest text part : List ℕ)
+    → bytes_before bytes (groups_of more quad left) ≡ groups_of 8 quad text → 0 < more
+    → cut colon left ≡ Some (part, rest) → group_of part ≡ None → None ≡ groups_of 8 quad text
 loop_breaks bytes more quad left rest text part same some is read =
-    sym (ap (bytes_before bytes) (groups-step more quad left part rest some is ∙ ap (λ o. o >>= λ g. bytes_before g (groups_of (more - 1) quad rest)) read)) ∙ same
+    sym (ap (bytes_before bytes)
+    (groups-step more quad left part rest some is
+    ∙ ap (λ o. o >>= λ g. bytes_before g (groups_of (more - 1) quad rest)) read)) ∙ same
 
-pub loop_ends : (bytes now : List ℕ) (more : ℕ) (quad : Bool) (left text last : List ℕ) → bytes_before bytes (groups_of more quad left) ≡ groups_of 8 quad text → 0 < more → cut colon left ≡ None → last_group quad left ≡ Some last → now ≡ bytes ++ last → Some now ≡ groups_of 8 quad text
+pub loop_ends : (bytes now : List ℕ) (more : ℕ) (quad : Bool) (left text last : List ℕ)
+    → bytes_before bytes (groups_of more quad left) ≡ groups_of 8 quad text → 0 < more → cut colon left ≡ None
+    → last_group quad left ≡ Some last → now ≡ bytes ++ last → Some now ≡ groups_of 8 quad text
 loop_ends bytes now more quad left text last same some is read pushed =
     ap Some pushed ∙ sym (ap (bytes_before bytes) (groups-last more quad left some is ∙ read)) ∙ same
 
-pub loop_ends_broken : (bytes : List ℕ) (more : ℕ) (quad : Bool) (left text : List ℕ) → bytes_before bytes (groups_of more quad left) ≡ groups_of 8 quad text → 0 < more → cut colon left ≡ None → last_group quad left ≡ None → None ≡ groups_of 8 quad text
+pub loop_ends_broken : (bytes : List ℕ) (more : ℕ) (quad : Bool) (left text : List ℕ)
+    → bytes_before bytes (groups_of more quad left) ≡ groups_of 8 quad text → 0 < more → cut colon left ≡ None
+    → last_group quad left ≡ None → None ≡ groups_of 8 quad text
 loop_ends_broken bytes more quad left text same some is read =
     sym (ap (bytes_before bytes) (groups-last more quad left some is ∙ read)) ∙ same
 
-pub loop_is_full : (bytes : List ℕ) (quad : Bool) (left text : List ℕ) → bytes_before bytes (groups_of 0 quad left) ≡ groups_of 8 quad text → None ≡ groups_of 8 quad text
+pub loop_is_full : (bytes : List ℕ) (quad : Bool) (left text : List ℕ)
+    → bytes_before bytes (groups_of 0 quad left) ≡ groups_of 8 quad text → None ≡ groups_of 8 quad text
 loop_is_full bytes quad left text same = sym (ap (bytes_before bytes) (none-left quad left)) ∙ same

@@ -2,7 +2,8 @@ use Rattle.std.proofs.Common.{◌≡◌, ℕ, ◌+◌, ◌-◌, List, length, ta
 use Rattle.std.proofs.lemmas.List.{take_rest}
 use Rattle.zone_token.specs.Addresses.{cut, double_from, cut_double}
 
-pub cut-at : (byte : ℕ) (text : List ℕ) (at : ℕ) → position (λ b. eqb b byte) text ≡ Some at → cut byte text ≡ Some (take at text, take (length text - (at + 1)) (drop (at + 1) text))
+pub cut-at : (byte : ℕ) (text : List ℕ) (at : ℕ) → position (λ b. eqb b byte) text ≡ Some at
+    → cut byte text ≡ Some (take at text, take (length text - (at + 1)) (drop (at + 1) text))
 unfolding cut
 cut-at byte text at h =
     let cutter : ℕ → List ℕ × List ℕ = λ i. (take i text, drop (i + 1) text) in
@@ -15,7 +16,8 @@ cut-nowhere byte text h =
     let cutter : ℕ → List ℕ × List ℕ = λ i. (take i text, drop (i + 1) text) in
     ap (option_map cutter) h
 
-pub double-at : (text : List ℕ) (at : ℕ) → double_from 0 text ≡ Some at → cut_double text ≡ Some (take at text, take (length text - (at + 2)) (drop (at + 2) text))
+pub double-at : (text : List ℕ) (at : ℕ) → double_from 0 text ≡ Some at
+    → cut_double text ≡ Some (take at text, take (length text - (at + 2)) (drop (at + 2) text))
 unfolding cut_double
 double-at text at h =
     let cutter : ℕ → List ℕ × List ℕ = λ i. (take i text, drop (i + 2) text) in

@@ -1,4 +1,5 @@
-use Rattle.std.proofs.Common.{◌≡◌, ◌∙◌, ℕ, zero, suc, ◌+◌, ◌-◌, ◌<◌, ◌≤◌, List, [], ◌∷◌, length, take, drop, get_or, Bool, true, false, not, Some, None, cond, ltb, ap, sym, refl, arith}
+use Rattle.std.proofs.Common.{◌≡◌, ◌∙◌, ℕ, zero, suc, ◌+◌, ◌-◌, ◌<◌, ◌≤◌, List, [], ◌∷◌, length, take, drop, get_or}
+use Rattle.std.proofs.Common.{Bool, true, false, not, Some, None, cond, ltb, ap, sym, refl, arith}
 use Rattle.std.specs.Prelude.{◌==◌, unwrap_or}
 use Rattle.std.specs.List.{position_or_len}
 use Rattle.std.proofs.lemmas.List.{take_rest, length-drop}
@@ -15,7 +16,8 @@ not-false : (b : Bool) → not b ≡ false → b ≡ true
 not-false true is = refl
 not-false false is = cc
 
-pub until-passes : (test : ℕ → Bool) (text : List ℕ) (size : ℕ) → size ≡ size_until (λ byte. not (test byte)) text → (k : ℕ) → k < size → test (get_or text k 0) ≡ true
+pub until-passes : (test : ℕ → Bool) (text : List ℕ) (size : ℕ) → size ≡ size_until (λ byte. not (test byte)) text
+    → (k : ℕ) → k < size → test (get_or text k 0) ≡ true
 until-passes test text size is k below =
     let least = until-le (position_or_len (λ byte. not (test byte)) text) (length text) in
     not-false _ (fails_before_first (λ byte. not (test byte)) text k 0 (omega (arith, is, least)))
@@ -35,7 +37,8 @@ bare-plain : (size byte : ℕ) (rest : List ℕ) → is_plain byte ≡ true → 
 bare-plain size byte rest is = rw (plain-ends byte rest is, plain-bare byte rest is, plain-goes byte is) refl
 
 -- so do some of these
-pub bare-run : (n size : ℕ) (text : List ℕ) → n ≤ length text → ((k : ℕ) → k < n → is_plain (get_or text k 0) ≡ true) → bare_from false (size + n) (drop n text) ≡ bare_from false size text
+pub bare-run : (n size : ℕ) (text : List ℕ) → n ≤ length text → ((k : ℕ) → k < n → is_plain (get_or text k 0) ≡ true)
+    → bare_from false (size + n) (drop n text) ≡ bare_from false size text
 bare-run zero size text inside each = ap (λ k. bare_from false k text) (omega arith)
 bare-run (suc n) size [] inside each = absurd (omega arith)
 bare-run (suc n) size (byte ∷ rest) inside each =
@@ -45,10 +48,12 @@ bare-run (suc n) size (byte ∷ rest) inside each =
     ∙ sym (bare-plain size byte rest (each 0 (omega arith)))
 
 -- the loop over a bare token begins behind its plain bytes
-pub bare-begins : (size : ℕ) (text : List ℕ) → size ≡ size_until (λ byte. not (is_plain byte)) text → size ≤ length text → bare_from false size (take (length text - size) (drop size text)) ≡ bare_from false 0 text
+pub bare-begins : (size : ℕ) (text : List ℕ) → size ≡ size_until (λ byte. not (is_plain byte)) text
+    → size ≤ length text → bare_from false size (take (length text - size) (drop size text)) ≡ bare_from false 0 text
 bare-begins size text is inside =
     let start : size ≡ 0 + size = omega arith in
-    ap (bare_from false size) (take_rest text size) ∙ ap (λ n. bare_from false n (drop size text)) start ∙ bare-run size 0 text inside (until-passes is_plain text size is)
+    ap (bare_from false size) (take_rest text size) ∙ ap (λ n. bare_from false n (drop size text)) start
+    ∙ bare-run size 0 text inside (until-passes is_plain text size is)
 
 quoted-feed : (byte : ℕ) → is_plain_quoted byte ≡ true → (byte == line_feed) ≡ false
 quoted-feed byte is = grind (arith, nat_tests)
@@ -65,7 +70,9 @@ quoted-goes byte is = grind (arith, nat_tests)
 quoted-plain : (size byte : ℕ) (rest : List ℕ) → is_plain_quoted byte ≡ true → quoted_from false size (byte ∷ rest) ≡ quoted_from false (size + 1) rest
 quoted-plain size byte rest is = rw (quoted-feed byte is, quoted-closes byte is, quoted-in byte rest is, quoted-goes byte is) refl
 
-pub quoted-run : (n size : ℕ) (text : List ℕ) → n ≤ length text → ((k : ℕ) → k < n → is_plain_quoted (get_or text k 0) ≡ true) → quoted_from false (size + n) (drop n text) ≡ quoted_from false size text
+pub quoted-run : (n size : ℕ) (text : List ℕ) → n ≤ length text
+    → ((k : ℕ) → k < n → is_plain_quoted (get_or text k 0) ≡ true)
+    → quoted_from false (size + n) (drop n text) ≡ quoted_from false size text
 quoted-run zero size text inside each = ap (λ k. quoted_from false k text) (omega arith)
 quoted-run (suc n) size [] inside each = absurd (omega arith)
 quoted-run (suc n) size (byte ∷ rest) inside each =
@@ -75,10 +82,13 @@ quoted-run (suc n) size (byte ∷ rest) inside each =
     ∙ sym (quoted-plain size byte rest (each 0 (omega arith)))
 
 -- the loop over a quoted token begins behind its plain bytes
-pub quoted-begins : (size : ℕ) (text : List ℕ) → size ≡ size_until (λ byte. not (is_plain_quoted byte)) text → size ≤ length text → quoted_from false size (take (length text - size) (drop size text)) ≡ quoted_from false 0 text
+pub quoted-begins : (size : ℕ) (text : List ℕ) → size ≡ size_until (λ byte. not (is_plain_quoted byte)) text
+    → size ≤ length text → quoted_from false size (take (length text - size) (drop size text))
+    ≡ quoted_from false 0 text
 quoted-begins size text is inside =
     let start : size ≡ 0 + size = omega arith in
-    ap (quoted_from false size) (take_rest text size) ∙ ap (λ n. quoted_from false n (drop size text)) start ∙ quoted-run size 0 text inside (until-passes is_plain_quoted text size is)
+    ap (quoted_from false size) (take_rest text size) ∙ ap (λ n. quoted_from false n (drop size text)) start
+    ∙ quoted-run size 0 text inside (until-passes is_plain_quoted text size is)
 
 -- what is left behind some bytes
 pub left-size : (size : ℕ) (text : List ℕ) → size ≤ length text → size + length (take (length text - size) (drop size text)) ≡ length text

@@ -14,7 +14,10 @@ pub record Stays (spot : Spot) (byte : ℕ) : Type 0 where
   pub same : behind spot byte ≡ spot
   pub goes : ends_entry spot byte ≡ false
 
-none_of : (feed quote semicolon opening closing backslash : Bool) → (feed || quote || semicolon || opening || closing || backslash) ≡ false → (feed ≡ false) × (quote ≡ false) × (semicolon ≡ false) × (opening ≡ false) × (closing ≡ false) × (backslash ≡ false)
+none_of : (feed quote semicolon opening closing backslash : Bool)
+    → (feed || quote || semicolon || opening || closing || backslash) ≡ false
+    → (feed ≡ false) × (quote ≡ false) × (semicolon ≡ false) × (opening ≡ false) × (closing ≡ false)
+    × (backslash ≡ false)
 none_of false false false false false false is = (refl, refl, refl, refl, refl, refl)
 none_of true b c d e f is = cc
 none_of false true c d e f is = cc
@@ -29,7 +32,11 @@ stays-still part inside byte plain is =
     let s = none_of (byte == line_feed) (byte == quote) (byte == semicolon) (byte == opening) (byte == closing) (byte == backslash) is in
     record { same = same_at part plain s.0 s.1 s.2 s.3 s.4 s.5; goes = ap (λ t. t && (is_quoted part || not inside)) s.0 }
   where
-    same_at : (part : Part) → is_escaped part ≡ false → (byte == line_feed) ≡ false → (byte == quote) ≡ false → (byte == semicolon) ≡ false → (byte == opening) ≡ false → (byte == closing) ≡ false → (byte == backslash) ≡ false → ◌≡◌ {A = Spot} (record { part = part_behind part byte; inside = inside_behind part inside byte }) (record { part = part; inside = inside })
+    same_at : (part : Part) → is_escaped part ≡ false → (byte == line_feed) ≡ false → (byte == quote) ≡ false
+        → (byte == semicolon) ≡ false → (byte == opening) ≡ false → (byte == closing) ≡ false
+        → (byte == backslash) ≡ false
+        → ◌≡◌ {A = Spot} (record { part = part_behind part byte; inside = inside_behind part inside byte })
+        (record { part = part; inside = inside })
     same_at Plain plain f q s o c b = rw (q, s, b, o, c) refl
     same_at Escaped plain f q s o c b = cc
     same_at Quoted plain f q s o c b = rw (q, b) refl

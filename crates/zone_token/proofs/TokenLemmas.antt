@@ -1,4 +1,5 @@
-use Rattle.std.proofs.Common.{◌≡◌, ◌∙◌, ℕ, zero, suc, ◌+◌, ◌<◌, List, [], ◌∷◌, ◌++◌, length, drop, Bool, true, false, Result, Ok, Err, refl, sym, ap, arith, append_assoc, add-one}
+use Rattle.std.proofs.Common.{◌≡◌, ◌∙◌, ℕ, zero, suc, ◌+◌, ◌<◌, List, [], ◌∷◌, ◌++◌, length, drop, Bool, true, false}
+use Rattle.std.proofs.Common.{Result, Ok, Err, refl, sym, ap, arith, append_assoc, add-one}
 use Rattle.std.proofs.lemmas.List.{append-nil}
 use Rattle.std.specs.Option.{option_to_list}
 use Rattle.zone_token.specs.Token.{Token}
@@ -28,10 +29,15 @@ none-before (Ok tokens) = refl
 none-before (Err why) = refl
 
 -- the tokens of a text are those at its front and those behind it
-pub tokens-step : (inside : Bool) (text : List ℕ) (front : Front) → 0 < length text → front_of inside text ≡ Ok front → tokens_from 0 inside text ≡ after_tokens (option_to_list front.token) (tokens_from 0 front.inside (drop (front.more + 1) text))
+pub tokens-step : (inside : Bool) (text : List ℕ) (front : Front) → 0 < length text → front_of inside text ≡ Ok front
+    → tokens_from 0 inside text
+    ≡ after_tokens (option_to_list front.token) (tokens_from 0 front.inside (drop (front.more + 1) text))
 unfolding tokens_from
 tokens-step inside [] front some is = absurd (omega arith)
-tokens-step inside (byte ∷ rest) front some is = rw is (ap (after_tokens (option_to_list front.token)) (tokens_from-drop front.more front.inside rest ∙ ap (λ n. tokens_from 0 front.inside (drop n (byte ∷ rest))) (sym (add-one front.more))))
+tokens-step inside (byte ∷ rest) front some is =
+    rw is (ap (after_tokens (option_to_list front.token))
+    (tokens_from-drop front.more front.inside rest
+    ∙ ap (λ n. tokens_from 0 front.inside (drop n (byte ∷ rest))) (sym (add-one front.more))))
 
 -- a fault at the front is the fault of the text
 pub tokens-fault : (inside : Bool) (text : List ℕ) (why : TextWhy) → 0 < length text → front_of inside text ≡ Err why → tokens_from 0 inside text ≡ Err why
@@ -55,16 +61,24 @@ pub loop_starts : (tokens : List Token) (entry : List ℕ) → tokens ≡ [] →
 unfolding tokens_of
 loop_starts tokens entry is = rw is (none-before _)
 
-pub loop_goes_on : (tokens now : List Token) (inside : Bool) (text rest entry : List ℕ) (front : Front) → after_tokens tokens (tokens_from 0 inside text) ≡ tokens_of entry → 0 < length text → front_of inside text ≡ Ok front → now ≡ tokens ++ option_to_list front.token → rest ≡ drop (front.more + 1) text → after_tokens now (tokens_from 0 front.inside rest) ≡ tokens_of entry
+pub loop_goes_on : (tokens now : List Token) (inside : Bool) (text rest entry : List ℕ) (front : Front)
+    → after_tokens tokens (tokens_from 0 inside text) ≡ tokens_of entry → 0 < length text
+    → front_of inside text ≡ Ok front → now ≡ tokens ++ option_to_list front.token → rest ≡ drop (front.more + 1) text
+    → after_tokens now (tokens_from 0 front.inside rest) ≡ tokens_of entry
 loop_goes_on tokens now inside text rest entry front same some is more left =
     rw (more, left) (sym (after-after tokens (option_to_list front.token) (tokens_from 0 front.inside (drop (front.more + 1) text)))
     ∙ ap (after_tokens tokens) (sym (tokens-step inside text front some is)) ∙ same)
 
-pub loop_breaks : (tokens : List Token) (inside : Bool) (text entry : List ℕ) (why : TextWhy) → after_tokens tokens (tokens_from 0 inside text) ≡ tokens_of entry → 0 < length text → front_of inside text ≡ Err why → tokens_of entry ≡ Err why
+pub loop_breaks : (tokens : List Token) (inside : Bool) (text entry : List ℕ) (why : TextWhy)
+    → after_tokens tokens (tokens_from 0 inside text) ≡ tokens_of entry → 0 < length text
+    → front_of inside text ≡ Err why → tokens_of entry ≡ Err why
 loop_breaks tokens inside text entry why same some is = sym same ∙ ap (after_tokens tokens) (tokens-fault inside text why some is)
 
-pub loop_ends : (tokens : List Token) (text entry : List ℕ) → after_tokens tokens (tokens_from 0 false text) ≡ tokens_of entry → length text ≡ 0 → tokens_of entry ≡ Ok tokens
+pub loop_ends : (tokens : List Token) (text entry : List ℕ)
+    → after_tokens tokens (tokens_from 0 false text) ≡ tokens_of entry → length text ≡ 0 → tokens_of entry ≡ Ok tokens
 loop_ends tokens text entry same none = sym same ∙ ap (after_tokens tokens) (tokens-end text none) ∙ ap Ok (append-nil tokens)
 
-pub loop_ends_open : (tokens : List Token) (text entry : List ℕ) → after_tokens tokens (tokens_from 0 true text) ≡ tokens_of entry → length text ≡ 0 → tokens_of entry ≡ Err OpenParen
+pub loop_ends_open : (tokens : List Token) (text entry : List ℕ)
+    → after_tokens tokens (tokens_from 0 true text) ≡ tokens_of entry → length text ≡ 0
+    → tokens_of entry ≡ Err OpenParen
 loop_ends_open tokens text entry same none = sym same ∙ ap (after_tokens tokens) (tokens-open text none)

@@ -1,5 +1,6 @@
 -- Addresses as text (RFC 1035, section 3.4.1; RFC 4291, section 2.2).
-use Rattle.std.specs.Prelude.{ℕ, zero, suc, ◌+◌, ◌-◌, ◌*◌, List, [], ◌∷◌, ◌++◌, length, take, drop, position, replicate, nat_le, Bool, true, false, ◌&&◌, ◌==◌, if◌then◌else◌, Option, Some, None, option_map}
+use Rattle.std.specs.Prelude.{ℕ, zero, suc, ◌+◌, ◌-◌, ◌*◌, List, [], ◌∷◌, ◌++◌, length, take, drop, position, replicate}
+use Rattle.std.specs.Prelude.{nat_le, Bool, true, false, ◌&&◌, ◌==◌, if◌then◌else◌, Option, Some, None, option_map}
 use Rattle.std.specs.Option.{option_or, option_map_or}
 use Rattle.std.specs.Char.{is_ascii_digit}
 use Rattle.std.specs.Result.{result_ok}
@@ -72,7 +73,8 @@ last_group quad text = option_or (group_of text) (if quad then quad_of text else
 unfoldable pub groups_of : ℕ → Bool → List ℕ → Option (List ℕ)
 groups_of zero quad text = None
 groups_of (suc more) quad text =
-    option_map_or (λ parts. group_of parts.0 >>= λ group. groups_of more quad parts.1 >>= λ groups. Some (group ++ groups)) (cut colon text) (last_group quad text)
+    option_map_or (λ parts. group_of parts.0 >>= λ group. groups_of more quad parts.1 >>= λ groups. Some
+    (group ++ groups)) (cut colon text) (last_group quad text)
 
 -- the bytes of the groups on one side of two colons, which may be none
 unfoldable pub side_of : Bool → List ℕ → Option (List ℕ)
@@ -104,4 +106,5 @@ if_whole bytes = if length bytes == 16 then Some bytes else None
 -- the sixteen bytes of an address: eight groups, or fewer around two colons
 unfoldable pub address_of : List ℕ → Option (List ℕ)
 address_of text =
-    option_map_or (λ sides. side_of false sides.0 >>= λ front. side_of true sides.1 >>= λ back. filled front back) (cut_double text) (groups_of 8 true text >>= if_whole)
+    option_map_or (λ sides. side_of false sides.0 >>= λ front. side_of true sides.1 >>= λ back. filled front back)
+    (cut_double text) (groups_of 8 true text >>= if_whole)

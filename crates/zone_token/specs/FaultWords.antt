@@ -1,7 +1,9 @@
 -- The names of the reasons why an entry is broken (this project's own).
 use Rattle.std.specs.Prelude.{ℕ, List, codes}
 use Rattle.zone_token.specs.declared.fault.TextWhy.{TextWhy}
-use Rattle.zone_token.specs.declared.fault.TextWhy.TheVariants.{BadToken, OpenQuote, OpenParen, BadName, BadTtl, NoTtl, UnknownType, UnknownDirective, BadData, NoOwner, WrongClass, TooMany, TooLarge, Memory}
+use Rattle.zone_token.specs.declared.fault.TextWhy.TheVariants.{BadToken, OpenQuote, OpenParen, BadName, BadTtl, NoTtl}
+use Rattle.zone_token.specs.declared.fault.TextWhy.TheVariants.{UnknownType, UnknownDirective, BadData, NoOwner}
+use Rattle.zone_token.specs.declared.fault.TextWhy.TheVariants.{WrongClass, TooMany, TooLarge, Memory}
 
 -- the name of a reason
 abbrev pub name_of : TextWhy → List ℕ

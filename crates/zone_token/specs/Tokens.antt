@@ -1,5 +1,7 @@
 -- The tokens of an entry, and its lexical fault (RFC 1035, section 5.1).
-use Rattle.std.specs.Prelude.{◌≡◌, ◌≢◌, ℕ, zero, suc, nat_le, ◌+◌, ◌-◌, List, [], ◌∷◌, ◌++◌, length, take, position, unwrap_or, Bool, true, false, not, ◌&&◌, ◌||◌, ◌==◌, if◌then◌else◌, Some, None, Result, Ok, Err}
+use Rattle.std.specs.Prelude.{◌≡◌, ◌≢◌, ℕ, zero, suc, nat_le, ◌+◌, ◌-◌, List, [], ◌∷◌, ◌++◌, length, take, position}
+use Rattle.std.specs.Prelude.{unwrap_or, Bool, true, false, not, ◌&&◌, ◌||◌, ◌==◌, if◌then◌else◌, Some, None, Result}
+use Rattle.std.specs.Prelude.{Ok, Err}
 use Rattle.std.specs.Option.{option_to_list}
 use Rattle.zone_token.specs.Bytes.{line_feed, quote, opening, closing, semicolon, backslash, is_blank, is_visible, is_quotable, is_escape}
 use Rattle.zone_token.specs.Token.{Token}

@@ -1,6 +1,7 @@
 //! Addresses of sixteen bytes.
 ghost use Rattle.std.specs.Prelude.{true, ◌≡◌, ◌+◌, ◌<◌, ◌≤◌, ◌++◌, length, replicate, IfSome, ◌==◌, ◌&&◌, option_and_then, MatchOption, Some, None};
-ghost use Rattle.zone_token.specs.Addresses.{colon, hex_of, digits_of, group_of, last_group, groups_of, side_of, is_colon, double_from, cut_double, filled, if_whole, address_of};
+ghost use Rattle.zone_token.specs.Addresses.{colon, hex_of, digits_of, group_of, last_group, groups_of, side_of};
+ghost use Rattle.zone_token.specs.Addresses.{is_colon, double_from, cut_double, filled, if_whole, address_of};
 
 use crate::cuts::cut;
 use crate::quads::read_quad;

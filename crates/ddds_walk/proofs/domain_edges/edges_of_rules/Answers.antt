@@ -10,7 +10,8 @@ returns-then-is_past-clause-edges g c =
     let client = (meant g.P.DddsApp.meaning c.args.client.now) in
     edges_told c.one_output.ensures.output client c.args.rules.now c.loop-rule.edges c.requires.rising
     (at_past client c.loop-rule.least c.args.rules.now c.loop-rule.rule-index c.loop-rule.edges c.loop-rule.invariant.whole
-    c.rule-item.result c.loop-rule-test.true c.rule-item.is (is_past c.loop-rule.least c.rule-item.result.order c.is_past.result c.is_past.ensures c.if-is_past.true))
+    c.rule-item.result c.loop-rule-test.true c.rule-item.is
+    (is_past c.loop-rule.least c.rule-item.result.order c.is_past.result c.is_past.ensures c.if-is_past.true))
 
 pub loop-rule-preserved : goal.loop-rule-preserved
 loop-rule-preserved g c =

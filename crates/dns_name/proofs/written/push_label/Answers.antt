@@ -19,5 +19,7 @@ pub returns : goal.returns
 returns c =
     let label = c.args.label.now in
     c.push.ensures
-    ∙ ap (λ x. x ++ 46 ∷ []) (c.loop-byte.invariant.bytes ∙ ap (λ x. c.args.text.now ++ flat_map byte_text x) (take_all c.loop-byte.byte-index label c.loop-byte-test.false))
+    ∙ ap (λ x. x ++ 46 ∷ []) (c.loop-byte.invariant.bytes
+    ∙ ap (λ x. c.args.text.now ++ flat_map byte_text x)
+    (take_all c.loop-byte.byte-index label c.loop-byte-test.false))
     ∙ append_assoc c.args.text.now (flat_map byte_text label) (46 ∷ [])

@@ -9,8 +9,10 @@ returns-in_err-preference c =
 
 pub returns-in_err-exchange : goal.returns-in_err-exchange
 returns-in_err-exchange c =
-    goes (c.in_ok-preference.preference, c.in_ok-preference.at_exchange) c.in_ok-preference.ensures.number (stop _ _ c.in_err-exchange.field-0.0 _ c.in_err-exchange.ensures c.from_residual-in_err-exchange.ensures.1)
+    goes (c.in_ok-preference.preference, c.in_ok-preference.at_exchange) c.in_ok-preference.ensures.number
+    (stop _ _ c.in_err-exchange.field-0.0 _ c.in_err-exchange.ensures c.from_residual-in_err-exchange.ensures.1)
 
 pub returns : goal.returns
 returns c =
-    goes (c.in_ok-preference.preference, c.in_ok-preference.at_exchange) c.in_ok-preference.ensures.number (goes c.in_ok-exchange.exchange c.in_ok-exchange.ensures (refl))
+    goes (c.in_ok-preference.preference, c.in_ok-preference.at_exchange) c.in_ok-preference.ensures.number
+    (goes c.in_ok-exchange.exchange c.in_ok-exchange.ensures (refl))

@@ -13,4 +13,5 @@ returns-in-Ok-clause-name c =
 
 pub returns-in-Err-clause-name : goal.returns-in-Err-clause-name
 returns-in-Err-clause-name c =
-    fault_of_rest c.args.bytes.now c.args.at _ c.in-Err.fault _ (take_rest c.args.bytes.now c.args.at) ((c.in-Err.ensures.fault c.in-Err.fault).0 refl) c.bare_fault.ensures
+    fault_of_rest c.args.bytes.now c.args.at _ c.in-Err.fault _ (take_rest c.args.bytes.now c.args.at)
+    ((c.in-Err.ensures.fault c.in-Err.fault).0 refl) c.bare_fault.ensures

@@ -34,4 +34,8 @@ returns-in_err-regexp-clause-front c =
 
 pub returns-clause-front : goal.returns-clause-front
 returns-clause-front c =
-    front_ok Shape c.args.message.now c.args.to c.args.from c.in_ok-order.order c.in_ok-order.at c.in_ok-preference.preference c.in_ok-preference.at c.in_ok-flags.flags c.in_ok-flags.at c.in_ok-services.services c.in_ok-services.at c.in_ok-regexp.regexp c.in_ok-regexp.at c.root.result c.in_ok-order.ensures.number c.in_ok-preference.ensures.number c.in_ok-flags.ensures.text c.in_ok-services.ensures.text c.in_ok-regexp.ensures.text c.root.ensures
+    front_ok Shape c.args.message.now c.args.to c.args.from c.in_ok-order.order c.in_ok-order.at
+    c.in_ok-preference.preference c.in_ok-preference.at c.in_ok-flags.flags c.in_ok-flags.at
+    c.in_ok-services.services c.in_ok-services.at c.in_ok-regexp.regexp c.in_ok-regexp.at c.root.result
+    c.in_ok-order.ensures.number c.in_ok-preference.ensures.number c.in_ok-flags.ensures.text
+    c.in_ok-services.ensures.text c.in_ok-regexp.ensures.text c.root.ensures

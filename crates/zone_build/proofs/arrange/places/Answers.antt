@@ -14,4 +14,5 @@ one_more a (suc n) =
 pub loop-place-preserved : goal.loop-place-preserved
 loop-place-preserved c =
     let e : 0 + c.loop-place.place ≡ c.loop-place.place = omega arith in
-    c.in_ok-push.ensures.items ∙ ap (λ l. l ++ c.loop-place.place ∷ []) c.loop-place.invariant ∙ sym (one_more 0 c.loop-place.place ∙ ap (λ k. range_with_len 0 c.loop-place.place ++ k ∷ []) e)
+    c.in_ok-push.ensures.items ∙ ap (λ l. l ++ c.loop-place.place ∷ []) c.loop-place.invariant
+    ∙ sym (one_more 0 c.loop-place.place ∙ ap (λ k. range_with_len 0 c.loop-place.place ++ k ∷ []) e)

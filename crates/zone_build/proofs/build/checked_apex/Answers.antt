@@ -14,7 +14,12 @@ record_at-requires c = mixed_within c.args.given.now c.args.entries.now c.in-Som
 
 pub returns-in-Some-first_mixed-clause-err : goal.returns-in-Some-first_mixed-clause-err
 returns-in-Some-first_mixed-clause-err c =
-    mixed_fault c.args.given.now c.args.entries.now c.in-Ok.apex c.in-Some-first_mixed.place c.record_at.result.now c.fold.result c.requires.givens c.in-Ok.ensures.ok c.in_default.ensures.none c.in-Some-first_mixed.ensures (mixed_within c.args.given.now c.args.entries.now c.in-Some-first_mixed.place c.requires.givens c.in-Some-first_mixed.ensures) c.record_at.ensures c.fold.ensures
+    mixed_fault c.args.given.now c.args.entries.now c.in-Ok.apex c.in-Some-first_mixed.place c.record_at.result.now
+    c.fold.result c.requires.givens c.in-Ok.ensures.ok c.in_default.ensures.none c.in-Some-first_mixed.ensures
+    (mixed_within c.args.given.now c.args.entries.now c.in-Some-first_mixed.place c.requires.givens
+    c.in-Some-first_mixed.ensures) c.record_at.ensures c.fold.ensures
 
 pub returns-clause-ok : goal.returns-clause-ok
-returns-clause-ok c = unmixed_apex c.args.given.now c.args.entries.now c.in-Ok.apex c.requires.givens c.in-Ok.ensures.ok c.in_default.ensures.none c.in_default-first_mixed.ensures
+returns-clause-ok c =
+    unmixed_apex c.args.given.now c.args.entries.now c.in-Ok.apex c.requires.givens c.in-Ok.ensures.ok
+    c.in_default.ensures.none c.in_default-first_mixed.ensures

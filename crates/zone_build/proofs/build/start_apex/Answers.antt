@@ -8,5 +8,11 @@ returns-then-not-is_only_start-clause-err c =
     (c.in-Some.start.now, c.in-Some.ensures.0, c.in-Some.ensures.1, λ all. absurd (cc (c.if-not-is_only_start.ensures.1 all)))
 
 pub returns-clause-ok : goal.returns-clause-ok
-returns-clause-ok c =
-    (c.in-Some.start.now, c.in-Some.ensures.0, c.in-Some.ensures.1, c.fold.ensures ∙ ap (λ (r : Record). folded_labels r.owner) c.record.ensures, c.if-not-is_only_start.ensures.0 refl)
+returns-clause-ok c = (
+  c.in-Some.start.now,
+  c.in-Some.ensures.0,
+  c.in-Some.ensures.1,
+  c.fold.ensures
+      ∙ ap (λ (r : Record). folded_labels r.owner) c.record.ensures,
+  c.if-not-is_only_start.ensures.0 refl,
+)

@@ -16,8 +16,11 @@ returns-in-Some-clause-first c =
 
 pub returns-in-Some-first_large-clause-first : goal.returns-in-Some-first_large-clause-first
 returns-in-Some-first_large-clause-first c =
-    large_after_start c.args.kept.now c.split_at.result.0.now c.split_at.result.1.now c.in-Some-first_large.place c.requires c.split_at.ensures.front c.split_at.ensures.back c.in_default.ensures.first c.in-Some-first_large.ensures.first
+    large_after_start c.args.kept.now c.split_at.result.0.now c.split_at.result.1.now c.in-Some-first_large.place
+    c.requires c.split_at.ensures.front c.split_at.ensures.back c.in_default.ensures.first
+    c.in-Some-first_large.ensures.first
 
 pub returns-in-None-clause-first : goal.returns-in-None-clause-first
 returns-in-None-clause-first c =
-    large_nowhere c.args.kept.now c.split_at.result.0.now c.split_at.result.1.now c.requires c.split_at.ensures.front c.split_at.ensures.back c.in_default.ensures.first c.in-None.ensures.first
+    large_nowhere c.args.kept.now c.split_at.result.0.now c.split_at.result.1.now c.requires c.split_at.ensures.front
+    c.split_at.ensures.back c.in_default.ensures.first c.in-None.ensures.first

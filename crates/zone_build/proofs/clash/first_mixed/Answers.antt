@@ -15,9 +15,15 @@ is_mixed-requires-clause-ordered c =
 pub loop-at-preserved : goal.loop-at-preserved
 loop-at-preserved c = elim c.if-is_mixed.branch [
   | then-is_mixed w ↦
-      subst (IsMixing c.args.sorted.now _) (sym (w.first-is ∙ w.lesser-first.ensures)) (mixing_met c.args.sorted.now c.run_at-owner.result.now c.loop-at.at (length c.run_at-owner.result.now) c.loop-at.first w.least_place.result c.loop-at.invariant c.run_at-owner.ensures.run c.run_at-owner.ensures.part (c.is_mixed.ensures.0 w.if-is_mixed.true) w.least_place.ensures)
+      subst (IsMixing c.args.sorted.now _) (sym (w.first-is ∙ w.lesser-first.ensures))
+      (mixing_met c.args.sorted.now c.run_at-owner.result.now c.loop-at.at (length c.run_at-owner.result.now)
+      c.loop-at.first w.least_place.result c.loop-at.invariant c.run_at-owner.ensures.run
+      c.run_at-owner.ensures.part (c.is_mixed.ensures.0 w.if-is_mixed.true) w.least_place.ensures)
   | else-is_mixed w ↦
-      subst (IsMixing c.args.sorted.now _) (sym w.first-is) (mixing_passed c.args.sorted.now c.run_at-owner.result.now c.loop-at.at (length c.run_at-owner.result.now) c.loop-at.first c.loop-at.invariant c.run_at-owner.ensures.run c.run_at-owner.ensures.part (λ m. absurd (cc (w.if-is_mixed.false, c.is_mixed.ensures.1 m))))
+      subst (IsMixing c.args.sorted.now _) (sym w.first-is)
+      (mixing_passed c.args.sorted.now c.run_at-owner.result.now c.loop-at.at (length c.run_at-owner.result.now)
+      c.loop-at.first c.loop-at.invariant c.run_at-owner.ensures.run c.run_at-owner.ensures.part
+      (λ m. absurd (cc (w.if-is_mixed.false, c.is_mixed.ensures.1 m))))
 ]
 
 pub returns : goal.returns

@@ -6,7 +6,11 @@ use Rattle.zone_build.proofs.clash.has_alias.Goals as goal
 
 pub returns-then-record-eq5 : goal.returns-then-record-eq5
 returns-then-record-eq5 c = (
-  λ t. (c.entry-item.result, read_in c.args.owner.now c.loop-entry.entry-index c.entry-item.result c.loop-entry-test.true c.entry-item.is, ap (λ (r : Record). r.kind) (sym c.record.ensures) ∙ c.if-record-eq5.true),
+  λ t. (
+    c.entry-item.result,
+    read_in c.args.owner.now c.loop-entry.entry-index c.entry-item.result c.loop-entry-test.true c.entry-item.is,
+    ap (λ (r : Record). r.kind) (sym c.record.ensures) ∙ c.if-record-eq5.true,
+  ),
   λ s. refl,
 )
 

@@ -15,13 +15,24 @@ pub loop-entry-preserved : goal.loop-entry-preserved
 loop-entry-preserved c = elim c.if-place-least.branch [
   | then-place-least w ↦
       record {
-        some = (c.entry-item.result, read_in c.args.owner.now c.loop-entry.entry-index c.entry-item.result c.loop-entry-test.true c.entry-item.is, sym c.place-place.ensures ∙ sym w.least-is);
-        least = least_more (λ (g : Given). g.place) c.args.owner.now c.loop-entry.entry-index c.entry-item.result c.loop-entry.least c.if-place-least.least c.loop-entry-test.true c.entry-item.is c.loop-entry.invariant.least (omega arith) (omega arith);
+        some = (
+          c.entry-item.result,
+          read_in c.args.owner.now c.loop-entry.entry-index c.entry-item.result c.loop-entry-test.true
+              c.entry-item.is,
+          sym c.place-place.ensures ∙ sym w.least-is,
+        );
+        least = least_more
+            (λ (g : Given). g.place) c.args.owner.now c.loop-entry.entry-index c.entry-item.result c.loop-entry.least
+            c.if-place-least.least c.loop-entry-test.true c.entry-item.is c.loop-entry.invariant.least (omega arith)
+            (omega arith);
       }
   | else-place-least w ↦
       record {
         some = (c.loop-entry.invariant.some.0, c.loop-entry.invariant.some.1, c.loop-entry.invariant.some.2 ∙ sym w.least-is);
-        least = least_more (λ (g : Given). g.place) c.args.owner.now c.loop-entry.entry-index c.entry-item.result c.loop-entry.least c.if-place-least.least c.loop-entry-test.true c.entry-item.is c.loop-entry.invariant.least (omega arith) (omega arith);
+        least = least_more
+            (λ (g : Given). g.place) c.args.owner.now c.loop-entry.entry-index c.entry-item.result c.loop-entry.least
+            c.if-place-least.least c.loop-entry-test.true c.entry-item.is c.loop-entry.invariant.least (omega arith)
+            (omega arith);
       }
 ]
 

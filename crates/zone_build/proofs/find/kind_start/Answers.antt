@@ -8,7 +8,8 @@ loop-low-preserved-then-from-kind c =
     let e = c.from.ensures in
     let f = c.kind_at.ensures in
     let t = c.if-from-kind.true in
-    between_upper c.args.records.now c.args.places c.args.kind c.loop-low.low c.loop-low.high _ c.requires.canonical c.requires.places c.loop-low.invariant (omega arith) (omega arith) (omega arith)
+    between_upper c.args.records.now c.args.places c.args.kind c.loop-low.low c.loop-low.high _ c.requires.canonical
+    c.requires.places c.loop-low.invariant (omega arith) (omega arith) (omega arith)
 
 pub loop-low-preserved : goal.loop-low-preserved
 loop-low-preserved c =
@@ -16,4 +17,5 @@ loop-low-preserved c =
     let e = c.from.ensures in
     let f = c.kind_at.ensures in
     let t = c.if-from-kind.false in
-    between_lower c.args.records.now c.args.places c.args.kind c.loop-low.low c.loop-low.high _ c.requires.canonical c.requires.places c.loop-low.invariant (omega arith) (omega arith) (λ h. absurd (omega arith))
+    between_lower c.args.records.now c.args.places c.args.kind c.loop-low.low c.loop-low.high _ c.requires.canonical
+    c.requires.places c.loop-low.invariant (omega arith) (omega arith) (λ h. absurd (omega arith))

@@ -24,8 +24,15 @@ returns-in-Some c =
 
 pub returns-in-None : goal.returns-in-None
 returns-in-None c =
-    least_alone c.args.records.now c.args.index.now c.args.owner.now c.requires.canonical c.requires.index c.in-None.ensures.none (subst (λ n. AreSame n c.args.owner.now) c.owner_at.ensures (c.same-is_apex.ensures.0 c.if-is_apex.true))
+    least_alone c.args.records.now c.args.index.now c.args.owner.now c.requires.canonical c.requires.index
+    c.in-None.ensures.none
+    (subst (λ n. AreSame n c.args.owner.now) c.owner_at.ensures (c.same-is_apex.ensures.0 c.if-is_apex.true))
 
 pub returns-in-None-2 : goal.returns-in-None-2
 returns-in-None-2 c =
-    least_nowhere c.args.records.now c.args.index.now c.args.owner.now c.requires.index c.in-None.ensures.none (λ same. absurd (cc (c.if-is_apex.false, c.same-is_apex.ensures.1 (subst (λ n. AreSame n c.args.owner.now) (sym c.owner_at.ensures) same))))
+    least_nowhere c.args.records.now c.args.index.now c.args.owner.now c.requires.index c.in-None.ensures.none
+    (λ same. absurd
+    (cc (
+      c.if-is_apex.false,
+      c.same-is_apex.ensures.1 (subst (λ n. AreSame n c.args.owner.now) (sym c.owner_at.ensures) same),
+    )))

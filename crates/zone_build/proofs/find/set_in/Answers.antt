@@ -8,4 +8,8 @@ pub returns : goal.returns
 returns c =
     let from = c.kind_start-from.result in
     let end = c.kind_start-end.result in
-    set_made c.args.records.now c.args.places c.args.kind from end _ c.requires.canonical c.requires.places c.requires.other (subst (λ k. IsKindStart c.args.records.now c.args.places k from) c.from.ensures c.kind_start-from.ensures) (subst (λ k. IsKindStart c.args.records.now c.args.places (k + 1) end) c.from-2.ensures c.kind_start-end.ensures) (ap (take (end - from)) (take_rest c.args.records.now from))
+    set_made c.args.records.now c.args.places c.args.kind from end _ c.requires.canonical c.requires.places
+    c.requires.other
+    (subst (λ k. IsKindStart c.args.records.now c.args.places k from) c.from.ensures c.kind_start-from.ensures)
+    (subst (λ k. IsKindStart c.args.records.now c.args.places (k + 1) end) c.from-2.ensures
+    c.kind_start-end.ensures) (ap (take (end - from)) (take_rest c.args.records.now from))

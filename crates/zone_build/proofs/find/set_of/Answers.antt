@@ -8,8 +8,11 @@ set_in-requires-clause-places c = c.requires.index.places (key_of c.args.owner.n
 
 pub returns-in-Some : goal.returns-in-Some
 returns-in-Some c =
-    set_renamed c.args.records.now (owner_at c.args.records.now c.in-Some.places.first) c.args.owner.now c.args.kind c.set_in.result.now c.in-Some.ensures.meets c.set_in.ensures
+    set_renamed c.args.records.now
+    (owner_at c.args.records.now c.in-Some.places.first) c.args.owner.now c.args.kind c.set_in.result.now
+    c.in-Some.ensures.meets c.set_in.ensures
 
 pub returns-in-None : goal.returns-in-None
 returns-in-None c =
-    set_lacking c.args.records.now c.args.index.now c.args.owner.now c.args.kind _ c.requires.canonical c.requires.index c.in-None.ensures.none c.if-kind-eq6.false refl
+    set_lacking c.args.records.now c.args.index.now c.args.owner.now c.args.kind _ c.requires.canonical
+    c.requires.index c.in-None.ensures.none c.if-kind-eq6.false refl

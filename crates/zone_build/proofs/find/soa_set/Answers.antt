@@ -9,4 +9,10 @@ returns-then-same c =
 
 pub returns : goal.returns
 returns c =
-    soa_set_lacking c.args.records.now c.args.owner.now _ c.requires (λ same. absurd (cc (c.if-same.false, c.if-same.ensures.1 (subst (λ n. AreSame n c.args.owner.now) (sym c.owner_at.ensures) same)))) refl
+    soa_set_lacking c.args.records.now c.args.owner.now _ c.requires
+    (λ same. absurd
+    (cc (
+      c.if-same.false,
+      c.if-same.ensures.1
+          (subst (λ n. AreSame n c.args.owner.now) (sym c.owner_at.ensures) same),
+    ))) refl

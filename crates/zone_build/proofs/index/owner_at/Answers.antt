@@ -5,4 +5,6 @@ use Rattle.zone_build.proofs.index.owner_at.Goals as goal
 
 pub returns : goal.returns
 returns c =
-    ap (λ (one : Record). one.owner) (sym c.index-records-place.is) ∙ sym (owner_read c.args.records.now c.args.place c.index-records-place.result c.requires c.index-records-place.is)
+    ap (λ (one : Record). one.owner) (sym c.index-records-place.is)
+    ∙ sym (owner_read c.args.records.now c.args.place c.index-records-place.result c.requires
+    c.index-records-place.is)

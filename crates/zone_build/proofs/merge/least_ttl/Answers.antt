@@ -17,13 +17,24 @@ loop-entry-preserved c =
     elim c.if-ttl-least.branch [
       | then-ttl-least w ↦
           record {
-            some = (c.entry-item.result, read_in c.args.set.now c.loop-entry.entry-index c.entry-item.result c.loop-entry-test.true c.entry-item.is, sym here ∙ sym w.least-is);
-            least = least_more (λ (g : Given). g.given.ttl) c.args.set.now c.loop-entry.entry-index c.entry-item.result c.loop-entry.least c.if-ttl-least.least c.loop-entry-test.true c.entry-item.is c.loop-entry.invariant.least (omega arith) (omega (arith, here));
+            some = (
+              c.entry-item.result,
+              read_in c.args.set.now c.loop-entry.entry-index c.entry-item.result c.loop-entry-test.true
+                  c.entry-item.is,
+              sym here ∙ sym w.least-is,
+            );
+            least = least_more
+                (λ (g : Given). g.given.ttl) c.args.set.now c.loop-entry.entry-index c.entry-item.result
+                c.loop-entry.least c.if-ttl-least.least c.loop-entry-test.true c.entry-item.is
+                c.loop-entry.invariant.least (omega arith) (omega (arith, here));
           }
       | else-ttl-least w ↦
           record {
             some = (c.loop-entry.invariant.some.0, c.loop-entry.invariant.some.1, c.loop-entry.invariant.some.2 ∙ sym w.least-is);
-            least = least_more (λ (g : Given). g.given.ttl) c.args.set.now c.loop-entry.entry-index c.entry-item.result c.loop-entry.least c.if-ttl-least.least c.loop-entry-test.true c.entry-item.is c.loop-entry.invariant.least (omega arith) (omega (arith, here));
+            least = least_more
+                (λ (g : Given). g.given.ttl) c.args.set.now c.loop-entry.entry-index c.entry-item.result
+                c.loop-entry.least c.if-ttl-least.least c.loop-entry-test.true c.entry-item.is
+                c.loop-entry.invariant.least (omega arith) (omega (arith, here));
           }
     ]
 

@@ -25,11 +25,20 @@ loop-at-preserved c =
     let among = read_in part 0 c.index-set-0.result c.run_at-set.ensures.run.some c.index-set-0.is in
     elim c.if-is_start-start.branch [
       | then-is_start-start+in_ok-push_set w ↦
-          rw w.out-is (set_added c.args.start all part c.loop-at.at (length part) c.index-set-0.result c.args.out.now.items c.loop-at.out.items w.push_set.new.out.items c.loop-at.invariant c.run_at-set.ensures.run c.run_at-set.ensures.part among (sym c.is_start.ensures ∙ same_bool c.is_start.result c.args.start w.if-is_start-start.true) w.in_ok-push_set.ensures)
+          rw w.out-is (set_added c.args.start all part c.loop-at.at
+          (length part) c.index-set-0.result c.args.out.now.items c.loop-at.out.items w.push_set.new.out.items
+          c.loop-at.invariant c.run_at-set.ensures.run c.run_at-set.ensures.part among
+          (sym c.is_start.ensures
+          ∙ same_bool c.is_start.result c.args.start w.if-is_start-start.true) w.in_ok-push_set.ensures)
       | else-is_start-start w ↦
-          rw w.out-is (set_passed c.args.start all part c.loop-at.at (length part) c.index-set-0.result c.args.out.now.items c.loop-at.out.items c.loop-at.invariant c.run_at-set.ensures.run c.run_at-set.ensures.part among (λ is. other_bool c.is_start.result c.args.start w.if-is_start-start.false (c.is_start.ensures ∙ is)))
+          rw w.out-is (set_passed c.args.start all part c.loop-at.at
+          (length part) c.index-set-0.result c.args.out.now.items c.loop-at.out.items c.loop-at.invariant
+          c.run_at-set.ensures.run c.run_at-set.ensures.part among
+          (λ is. other_bool c.is_start.result c.args.start w.if-is_start-start.false (c.is_start.ensures ∙ is)))
     ]
 
 pub returns : goal.returns
 returns c =
-    from_all Set (IsAtStart c.args.start) (IsKeptOf c.args.sorted.now) c.args.sorted.now c.loop-at.at c.args.out.now.items c.loop-at.out.items c.loop-at-test.false c.loop-at.invariant
+    from_all Set (IsAtStart c.args.start)
+    (IsKeptOf c.args.sorted.now) c.args.sorted.now c.loop-at.at c.args.out.now.items c.loop-at.out.items
+    c.loop-at-test.false c.loop-at.invariant

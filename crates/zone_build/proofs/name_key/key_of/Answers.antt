@@ -9,8 +9,11 @@ loop-byte-init c = state_first FIRST c.wire-byte-items.result.now
 
 pub loop-byte-preserved : goal.loop-byte-preserved
 loop-byte-preserved c =
-    state_more FIRST c.wire-byte-items.result.now c.loop-byte.byte-index c.loop-byte.state c.mixed-state.result c.loop-byte-test.true c.loop-byte.invariant (c.mixed-state.ensures ∙ ap (mixed c.loop-byte.state) c.fold_byte.ensures)
+    state_more FIRST c.wire-byte-items.result.now c.loop-byte.byte-index c.loop-byte.state c.mixed-state.result
+    c.loop-byte-test.true c.loop-byte.invariant
+    (c.mixed-state.ensures ∙ ap (mixed c.loop-byte.state) c.fold_byte.ensures)
 
 pub returns : goal.returns
 returns c =
-    key_met c.args.name.now c.wire-byte-items.result.now c.loop-byte.byte-index c.loop-byte.state c.wire-byte-items.ensures.value c.wire-byte-items.ensures.name c.loop-byte-test.false c.loop-byte.invariant
+    key_met c.args.name.now c.wire-byte-items.result.now c.loop-byte.byte-index c.loop-byte.state
+    c.wire-byte-items.ensures.value c.wire-byte-items.ensures.name c.loop-byte-test.false c.loop-byte.invariant

@@ -7,4 +7,6 @@ returns-clause-order c = c.cmp_folded.ensures ∙ wires_cmp c.args.one.now c.arg
 
 pub returns-clause-same : goal.returns-clause-same
 returns-clause-same c = λ e.
-    same_names c.args.one.now c.args.other.now c.wire-wire.ensures.name c.wire-other_wire.ensures.name (sym (c.cmp_folded.ensures ∙ wires_cmp c.args.one.now c.args.other.now c.wire-wire.ensures.name c.wire-other_wire.ensures.name) ∙ e)
+    same_names c.args.one.now c.args.other.now c.wire-wire.ensures.name c.wire-other_wire.ensures.name
+    (sym (c.cmp_folded.ensures
+    ∙ wires_cmp c.args.one.now c.args.other.now c.wire-wire.ensures.name c.wire-other_wire.ensures.name) ∙ e)

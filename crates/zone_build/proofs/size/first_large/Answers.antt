@@ -9,12 +9,16 @@ loop-at-init c = record { apart = apart_none (givens_from 0 c.args.records.now);
 
 pub returns-then-is_large-clause-first : goal.returns-then-is_large-clause-first
 returns-then-is_large-clause-first c =
-    set_met c.args.records.now c.set_at-set.result.now c.loop-at.at (length c.set_at-set.result.now) c.loop-at.invariant.apart c.set_at-set.ensures.run c.set_at-set.ensures.part (c.if-is_large.ensures.0 refl) c.loop-at.invariant.none c.loop-at-test.true
+    set_met c.args.records.now c.set_at-set.result.now c.loop-at.at
+    (length c.set_at-set.result.now) c.loop-at.invariant.apart c.set_at-set.ensures.run c.set_at-set.ensures.part
+    (c.if-is_large.ensures.0 refl) c.loop-at.invariant.none c.loop-at-test.true
 
 pub loop-at-preserved : goal.loop-at-preserved
 loop-at-preserved c = record {
   apart = apart_more (givens_from 0 c.args.records.now) c.loop-at.at (length c.set_at-set.result.now) c.loop-at.invariant.apart c.set_at-set.ensures.run;
-  none = set_passed c.args.records.now c.set_at-set.result.now c.loop-at.at (length c.set_at-set.result.now) c.loop-at.invariant.apart c.set_at-set.ensures.run c.set_at-set.ensures.part (λ l. absurd (cc (c.if-is_large.ensures.1 l))) c.loop-at.invariant.none;
+  none = set_passed c.args.records.now c.set_at-set.result.now c.loop-at.at
+      (length c.set_at-set.result.now) c.loop-at.invariant.apart c.set_at-set.ensures.run c.set_at-set.ensures.part
+      (λ l. absurd (cc (c.if-is_large.ensures.1 l))) c.loop-at.invariant.none;
 }
 
 pub returns-clause-first : goal.returns-clause-first

@@ -6,11 +6,14 @@ loop-at-init c = one_set_head c.args.rest.now c.index-rest-0.result c.index-rest
 
 pub returns-in_default-clause-run : goal.returns-in_default-clause-run
 returns-in_default-clause-run c =
-    set_ends c.args.rest.now c.index-rest-0.result c.index-rest-at.result c.loop-at.at c.cmp_sets.result c.requires.rising c.index-rest-0.is c.index-rest-at.is c.loop-at-test.true c.loop-at.invariant c.cmp_sets.ensures.order c.in_default.not-Equal
+    set_ends c.args.rest.now c.index-rest-0.result c.index-rest-at.result c.loop-at.at c.cmp_sets.result
+    c.requires.rising c.index-rest-0.is c.index-rest-at.is c.loop-at-test.true c.loop-at.invariant
+    c.cmp_sets.ensures.order c.in_default.not-Equal
 
 pub loop-at-preserved : goal.loop-at-preserved
 loop-at-preserved c =
-    one_set_more c.args.rest.now c.index-rest-0.result c.index-rest-at.result c.loop-at.at c.index-rest-at.is c.loop-at-test.true c.loop-at.invariant (c.cmp_sets.ensures.alike c.in-Equal.is)
+    one_set_more c.args.rest.now c.index-rest-0.result c.index-rest-at.result c.loop-at.at c.index-rest-at.is
+    c.loop-at-test.true c.loop-at.invariant (c.cmp_sets.ensures.alike c.in-Equal.is)
 
 pub returns-clause-run : goal.returns-clause-run
 returns-clause-run c = set_whole c.args.rest.now c.index-rest-0.result c.loop-at.at c.requires.some c.loop-at-test.false c.loop-at.invariant

@@ -7,7 +7,10 @@ use Rattle.zone_build.proofs.start.first_outside.Goals as goal
 pub returns-then-not-is_below-clause-some : goal.returns-then-not-is_below-clause-some
 returns-then-not-is_below-clause-some c = (
   c.index-records-place.result,
-  first_found (λ (r : Record). ¬ IsBelow r.owner c.args.apex.now) c.args.records.now c.loop-place.place c.index-records-place.result c.loop-place-test.true c.index-records-place.is (λ y k p. p (c.loop-place.invariant y k)) (λ b. absurd (cc (c.if-not-is_below.ensures.1 b))),
+  first_found
+      (λ (r : Record). ¬ IsBelow r.owner c.args.apex.now) c.args.records.now c.loop-place.place
+      c.index-records-place.result c.loop-place-test.true c.index-records-place.is
+      (λ y k p. p (c.loop-place.invariant y k)) (λ b. absurd (cc (c.if-not-is_below.ensures.1 b))),
 )
 
 pub returns-clause-none : goal.returns-clause-none

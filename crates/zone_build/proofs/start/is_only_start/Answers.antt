@@ -8,7 +8,11 @@ use Rattle.zone_build.proofs.start.is_only_start.Goals as goal
 pub returns-then-not-goes_with : goal.returns-then-not-goes_with
 returns-then-not-goes_with c = (
   λ t. absurd (cc),
-  λ all. absurd (cc (c.if-not-goes_with.ensures.1 (all c.entry-item.result (read_in c.args.entries.now c.loop-entry.entry-index c.entry-item.result c.loop-entry-test.true c.entry-item.is)))),
+  λ all. absurd
+      (cc (c.if-not-goes_with.ensures.1
+      (all c.entry-item.result
+      (read_in c.args.entries.now c.loop-entry.entry-index c.entry-item.result c.loop-entry-test.true
+      c.entry-item.is)))),
 )
 
 pub loop-entry-preserved : goal.loop-entry-preserved

@@ -15,7 +15,8 @@ returns-then-exists t c = (c.if-exists.ensures.0 refl, inl refl)
 
 pub returns-in-Some : goal.returns-in-Some
 returns-in-Some t c =
-    closest_further c.args.zone.now c.args.name.now c.in-Some.above c.closest.result c.in-Some.ensures (λ e. absurd (cc (c.if-exists.ensures.1 e))) c.requires c.closest.ensures
+    closest_further c.args.zone.now c.args.name.now c.in-Some.above c.closest.result c.in-Some.ensures
+    (λ e. absurd (cc (c.if-exists.ensures.1 e))) c.requires c.closest.ensures
 
 pub returns-in-None : goal.returns-in-None
 returns-in-None t c = (root_exists c.args.zone.now c.args.name.now c.in-None.ensures c.requires, inl refl)

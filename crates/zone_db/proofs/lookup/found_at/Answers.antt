@@ -8,7 +8,8 @@ exists-requires c = source_inside c.args.zone.now c.args.name.now c.args.source.
 
 pub returns-then-exists : goal.returns-then-exists
 returns-then-exists c =
-    answered_found c.args.zone.now c.args.name.now c.args.source.now c.args.asked c.answer.result c.requires.uncut c.requires.source (c.if-exists.ensures.0 refl) c.answer.ensures
+    answered_found c.args.zone.now c.args.name.now c.args.source.now c.args.asked c.answer.result c.requires.uncut
+    c.requires.source (c.if-exists.ensures.0 refl) c.answer.ensures
 
 pub returns : goal.returns
 returns c =

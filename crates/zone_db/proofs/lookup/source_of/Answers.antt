@@ -11,4 +11,5 @@ wildcard_before-requires c =
 
 pub returns : goal.returns
 returns c =
-    wildcard_source c.args.zone.now c.args.name.now c.closest-encloser.result c.wildcard_before.result (λ e. absurd (cc (c.if-exists.ensures.1 e))) c.closest-encloser.ensures c.wildcard_before.ensures
+    wildcard_source c.args.zone.now c.args.name.now c.closest-encloser.result c.wildcard_before.result
+    (λ e. absurd (cc (c.if-exists.ensures.1 e))) c.closest-encloser.ensures c.wildcard_before.ensures

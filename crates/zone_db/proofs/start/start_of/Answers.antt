@@ -5,4 +5,6 @@ use Rattle.zone_db.proofs.start.start_of.Goals as goal
 
 pub returns : goal.returns
 returns c =
-    start_first c.args.zone.now.records c.index-records-0.result c.records.ensures.valid.order (subst (λ (xs : List Record). c.index-records-0.result ≡ get_or xs 0 c.index-records-0.result) c.records.ensures.records c.index-records-0.is)
+    start_first c.args.zone.now.records c.index-records-0.result c.records.ensures.valid.order
+    (subst (λ (xs : List Record). c.index-records-0.result
+    ≡ get_or xs 0 c.index-records-0.result) c.records.ensures.records c.index-records-0.is)

@@ -7,7 +7,8 @@ holds c =
     let len = c.self.inside.len in
     let row = c.self.inside.row in
     let before : HoldsName c.args.self.now len row = subst (λ labels. HoldsName labels len row) c.self.view_is (HoldsName-row len row c.self.invariant) in
-    HoldsName-appended c.args.self.now c.args.other.now len row c.wire-back.result.now c.put.new.row before c.wire-back.ensures.name c.wire-back.ensures.value c.if-front-back-gt255.false c.put.ensures
+    HoldsName-appended c.args.self.now c.args.other.now len row c.wire-back.result.now c.put.new.row before
+    c.wire-back.ensures.name c.wire-back.ensures.value c.if-front-back-gt255.false c.put.ensures
 
 pub invariant_of-self : goal.invariant_of-self
 invariant_of-self c = IsRow-holds _ _ _ (holds c)

@@ -8,7 +8,8 @@ holds c =
     let row = c.self.inside.row in
     let label = c.args.label.now in
     let before : HoldsName c.args.self.now len row = subst (λ labels. HoldsName labels len row) c.self.view_is (HoldsName-row len row c.self.invariant) in
-    HoldsName-appended_label c.args.self.now label len row c.put_label.new.row before c.requires.some c.requires.most (AreBytes-fits label c.type_inv.label) c.if-front-label-gt255.false c.put_label.ensures
+    HoldsName-appended_label c.args.self.now label len row c.put_label.new.row before c.requires.some c.requires.most
+    (AreBytes-fits label c.type_inv.label) c.if-front-label-gt255.false c.put_label.ensures
 
 pub invariant_of-self : goal.invariant_of-self
 invariant_of-self c = IsRow-holds _ _ _ (holds c)

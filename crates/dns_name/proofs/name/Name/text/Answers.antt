@@ -22,7 +22,8 @@ loop-rest-init c =
 pub loop-rest-preserved : goal.loop-rest-preserved
 loop-rest-preserved c = record {
   wire = c.split_first.ensures.rest;
-  bytes = text_more c.loop-rest.text _ _ c.loop-rest.rest.now _ c.split_first.result.1.now c.split_first.ensures.labels c.loop-rest.invariant.bytes c.push_label.ensures;
+  bytes = text_more c.loop-rest.text _ _ c.loop-rest.rest.now _ c.split_first.result.1.now c.split_first.ensures.labels
+      c.loop-rest.invariant.bytes c.push_label.ensures;
   room = text_fits c.loop-rest.text _ c.split_first.result.0.now _ _ c.loop-rest.invariant.room c.split_first.ensures.sum c.push_label.ensures;
 }
 

@@ -11,16 +11,27 @@ returns-in_err-append_u32-clause-front c =
 
 pub returns-in_err-append_u32-2-clause-front : goal.returns-in_err-append_u32-2-clause-front
 returns-in_err-append_u32-2-clause-front c =
-    front_through _ _ _ (front_through _ _ _ (front_through _ _ _ c.append.ensures.front c.append-2.ensures.front) c.append_u32.ensures.front) c.append_u32-2.ensures.front
+    front_through _ _ _ (front_through _ _ _
+    (front_through _ _ _ c.append.ensures.front c.append-2.ensures.front) c.append_u32.ensures.front)
+    c.append_u32-2.ensures.front
 
 pub returns-in_err-append_u32-3-clause-front : goal.returns-in_err-append_u32-3-clause-front
 returns-in_err-append_u32-3-clause-front c =
-    front_through _ _ _ (front_through _ _ _ (front_through _ _ _ (front_through _ _ _ c.append.ensures.front c.append-2.ensures.front) c.append_u32.ensures.front) c.append_u32-2.ensures.front) c.append_u32-3.ensures.front
+    front_through _ _ _ (front_through _ _ _
+    (front_through _ _ _ (front_through _ _ _ c.append.ensures.front c.append-2.ensures.front)
+    c.append_u32.ensures.front) c.append_u32-2.ensures.front) c.append_u32-3.ensures.front
 
 pub returns-in_err-append_u32-4-clause-front : goal.returns-in_err-append_u32-4-clause-front
 returns-in_err-append_u32-4-clause-front c =
-    front_through _ _ _ (front_through _ _ _ (front_through _ _ _ (front_through _ _ _ (front_through _ _ _ c.append.ensures.front c.append-2.ensures.front) c.append_u32.ensures.front) c.append_u32-2.ensures.front) c.append_u32-3.ensures.front) c.append_u32-4.ensures.front
+    front_through _ _ _ (front_through _ _ _
+    (front_through _ _ _ (front_through _ _ _ (front_through _ _ _ c.append.ensures.front c.append-2.ensures.front)
+    c.append_u32.ensures.front) c.append_u32-2.ensures.front) c.append_u32-3.ensures.front)
+    c.append_u32-4.ensures.front
 
 pub returns-clause-front : goal.returns-clause-front
 returns-clause-front c =
-    front_through _ _ _ (front_through _ _ _ (front_through _ _ _ (front_through _ _ _ (front_through _ _ _ (front_through _ _ _ c.append.ensures.front c.append-2.ensures.front) c.append_u32.ensures.front) c.append_u32-2.ensures.front) c.append_u32-3.ensures.front) c.append_u32-4.ensures.front) c.append_u32-5.ensures.front
+    front_through _ _ _ (front_through _ _ _
+    (front_through _ _ _ (front_through _ _ _
+    (front_through _ _ _ (front_through _ _ _ c.append.ensures.front c.append-2.ensures.front)
+    c.append_u32.ensures.front) c.append_u32-2.ensures.front) c.append_u32-3.ensures.front)
+    c.append_u32-4.ensures.front) c.append_u32-5.ensures.front

@@ -7,12 +7,21 @@ use Rattle.zone_build.proofs.entry.Entry.cmp_by.Goals as goal
 
 pub returns-in-Owner-clause-alike : goal.returns-in-Owner-clause-alike
 returns-in-Owner-clause-alike c = λ e.
-    rw c.in-Owner.is (equal_alike Owner c.args.self.now.given c.args.other.now.given (subst (λ (g : Given). IsName g.given.owner) c.self.view_is c.self.invariant.name) (subst (λ (g : Given). IsName g.given.owner) c.other.view_is c.other.invariant.name) (sym c.cmp_owner.ensures ∙ e))
+    rw c.in-Owner.is (equal_alike Owner c.args.self.now.given c.args.other.now.given
+    (subst (λ (g : Given). IsName g.given.owner) c.self.view_is c.self.invariant.name)
+    (subst (λ (g : Given). IsName g.given.owner) c.other.view_is c.other.invariant.name)
+    (sym c.cmp_owner.ensures ∙ e))
 
 pub returns-in-Set-clause-alike : goal.returns-in-Set-clause-alike
 returns-in-Set-clause-alike c = λ e.
-    rw c.in-Set.is (equal_alike Set c.args.self.now.given c.args.other.now.given (subst (λ (g : Given). IsName g.given.owner) c.self.view_is c.self.invariant.name) (subst (λ (g : Given). IsName g.given.owner) c.other.view_is c.other.invariant.name) (sym c.cmp_set.ensures ∙ e))
+    rw c.in-Set.is (equal_alike Set c.args.self.now.given c.args.other.now.given
+    (subst (λ (g : Given). IsName g.given.owner) c.self.view_is c.self.invariant.name)
+    (subst (λ (g : Given). IsName g.given.owner) c.other.view_is c.other.invariant.name)
+    (sym c.cmp_set.ensures ∙ e))
 
 pub returns-in-Whole-clause-alike : goal.returns-in-Whole-clause-alike
 returns-in-Whole-clause-alike c = λ e.
-    rw c.in-Whole.is (equal_alike Whole c.args.self.now.given c.args.other.now.given (subst (λ (g : Given). IsName g.given.owner) c.self.view_is c.self.invariant.name) (subst (λ (g : Given). IsName g.given.owner) c.other.view_is c.other.invariant.name) (sym c.cmp_record.ensures ∙ e))
+    rw c.in-Whole.is (equal_alike Whole c.args.self.now.given c.args.other.now.given
+    (subst (λ (g : Given). IsName g.given.owner) c.self.view_is c.self.invariant.name)
+    (subst (λ (g : Given). IsName g.given.owner) c.other.view_is c.other.invariant.name)
+    (sym c.cmp_record.ensures ∙ e))

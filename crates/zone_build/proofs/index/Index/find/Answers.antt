@@ -12,7 +12,9 @@ meets-requires c =
     let key = key_of c.args.name.now in
     let one = c.in-Some.one.now in
     let is : lookup (nat_eq key) c.args.self.now.entries ≡ Some one =
-    subst (λ (i : Indexed). lookup (nat_eq key) i.entries ≡ Some one) c.self.view_is (subst (λ k. lookup (nat_eq k) c.self.inside.map.entries ≡ Some one) c.key_of.ensures (sym c.in-Some.ensures.value)) in
+    subst (λ (i : Indexed). lookup (nat_eq key) i.entries ≡ Some one) c.self.view_is
+    (subst (λ k. lookup (nat_eq k) c.self.inside.map.entries ≡ Some one) c.key_of.ensures
+    (sym c.in-Some.ensures.value)) in
     let p = c.requires key one (in_map c.args.self.now key one is) in
     let s = p.some in
     let w = p.within in
@@ -26,12 +28,18 @@ pub returns-then-meets-clause-there : goal.returns-then-meets-clause-there
 returns-then-meets-clause-there c =
     let key = key_of c.args.name.now in
     let one = c.in-Some.one.now in
-    in_map c.args.self.now key one (subst (λ (i : Indexed). lookup (nat_eq key) i.entries ≡ Some one) c.self.view_is (subst (λ k. lookup (nat_eq k) c.self.inside.map.entries ≡ Some one) c.key_of.ensures (sym c.in-Some.ensures.value)))
+    in_map c.args.self.now key one
+    (subst (λ (i : Indexed). lookup (nat_eq key) i.entries ≡ Some one) c.self.view_is
+    (subst (λ k. lookup (nat_eq k) c.self.inside.map.entries ≡ Some one) c.key_of.ensures
+    (sym c.in-Some.ensures.value)))
 
 pub returns-clause-there : goal.returns-clause-there
 returns-clause-there c =
     let key = key_of c.args.name.now in
-    some_map (Contains c.as_slice.result.now) (Contains (candidates c.args.self.now key)) (λ one k. in_rest c.args.self.now key c.as_slice.result.now one (c.as_slice.ensures.value ∙ ap (λ (i : Indexed). i.rest) c.self.view_is) k) c.first_meeting.result c.first_meeting.ensures.there
+    some_map (Contains c.as_slice.result.now) (Contains (candidates c.args.self.now key))
+    (λ one k. in_rest c.args.self.now key c.as_slice.result.now one
+    (c.as_slice.ensures.value
+    ∙ ap (λ (i : Indexed). i.rest) c.self.view_is) k) c.first_meeting.result c.first_meeting.ensures.there
 
 pub returns-clause-none : goal.returns-clause-none
 returns-clause-none c =
@@ -39,12 +47,19 @@ returns-clause-none c =
     let index = c.args.self.now in
     let at : lookup (nat_eq c.key_of.result) c.self.inside.map.entries ≡ lookup (nat_eq key) index.entries =
     ap (λ k. lookup (nat_eq k) c.self.inside.map.entries) c.key_of.ensures ∙ ap (λ (i : Indexed). lookup (nat_eq key) i.entries) c.self.view_is in
-    none_map (NoneMeets c.args.sought c.args.records.now c.args.name.now c.as_slice.result.now) (NoneMeets c.args.sought c.args.records.now c.args.name.now (candidates index key))
-    (none_in_both c.args.sought c.args.records.now c.args.name.now index key c.as_slice.result.now (c.as_slice.ensures.value ∙ ap (λ (i : Indexed). i.rest) c.self.view_is)
+    none_map (NoneMeets c.args.sought c.args.records.now c.args.name.now c.as_slice.result.now)
+    (NoneMeets c.args.sought c.args.records.now c.args.name.now (candidates index key))
+    (none_in_both c.args.sought c.args.records.now c.args.name.now index key c.as_slice.result.now
+    (c.as_slice.ensures.value ∙ ap (λ (i : Indexed). i.rest) c.self.view_is)
     (λ one is m. elim c.match-get.branch [
       | in-Some+else-meets w ↦
           let same : w.in-Some.one.now ≡ one = let e = w.in-Some.ensures.value ∙ at ∙ is in cc in
-          cc (w.if-meets.false, w.meets.ensures.1 (subst (λ (p : Places). Meets c.args.sought (owner_at c.args.records.now p.first) c.args.name.now) (sym same) m))
+          cc (
+            w.if-meets.false,
+            w.meets.ensures.1
+                (subst (λ (p : Places). Meets c.args.sought (owner_at c.args.records.now p.first) c.args.name.now)
+                (sym same) m),
+          )
       | in_default w ↦ let e = w.in_default.ensures.value ∙ at ∙ is in absurd (cc)
     ]))
     c.first_meeting.result c.first_meeting.ensures.none

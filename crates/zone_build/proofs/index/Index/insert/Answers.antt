@@ -8,4 +8,6 @@ returns-in_ok-push c = rw (← c.self.view_is) (inserted_last _ _ c.args.key c.a
 pub returns-in_ok-insert : goal.returns-in_ok-insert
 returns-in_ok-insert c =
     rw (← c.self.view_is)
-    (inserted_key _ _ c.args.key c.args.places c.in_ok-insert.ensures.updates.0 (λ q e. key_absent c.self.inside.map.entries c.args.key q (sym c.contains_key.ensures ∙ c.if-contains_key.false) e) c.in_ok-insert.ensures.updates.1 refl)
+    (inserted_key _ _ c.args.key c.args.places c.in_ok-insert.ensures.updates.0
+    (λ q e. key_absent c.self.inside.map.entries c.args.key q
+    (sym c.contains_key.ensures ∙ c.if-contains_key.false) e) c.in_ok-insert.ensures.updates.1 refl)

@@ -4,4 +4,5 @@ use Rattle.zone_build.proofs.zone.Zone.set.Goals as goal
 
 pub returns : goal.returns
 returns c =
-    subst (λ xs. IsSet xs c.args.owner.now c.args.kind c.set_of.result.now) (c.as_slice.ensures.value ∙ ap (λ (z : Zone). z.records) c.self.view_is) c.set_of.ensures
+    subst (λ xs. IsSet xs c.args.owner.now c.args.kind c.set_of.result.now)
+    (c.as_slice.ensures.value ∙ ap (λ (z : Zone). z.records) c.self.view_is) c.set_of.ensures

@@ -13,4 +13,5 @@ returns-clause-keeps c = keeps_none (folded_labels c.args.name.now) c.offer_of.r
 
 pub returns-clause-offered : goal.returns-clause-offered
 returns-clause-offered c =
-    subst (λ (zs : List Zone). IfOk c.offer_of.result (IsOffer (told zs) c.args.name.now)) (ap (λ (a : Asked). a.zones) c.self.view_is) c.offer_of.ensures.offered
+    subst (λ (zs : List Zone). IfOk c.offer_of.result (IsOffer (told zs) c.args.name.now))
+    (ap (λ (a : Asked). a.zones) c.self.view_is) c.offer_of.ensures.offered
