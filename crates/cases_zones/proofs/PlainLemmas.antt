@@ -1,6 +1,6 @@
 -- The records that a zone text says are plain.
-use Rattle.std.proofs.Common.{◌≡◌, ◌⊎◌, inl, inr, ℕ, zero, suc, List, [], ◌∷◌, sym, subst}
-use Rattle.std.specs.Prelude.{Contains}
+use Rattle.std.proofs.Common.{◌≡◌, ◌⊎◌, inl, inr, ℕ, zero, suc, List, [], ◌∷◌, sym, subst, arith}
+use Rattle.std.specs.Prelude.{Contains, IfOk, Result, Ok, Err}
 use Rattle.dns_name.specs.Name.{Labels}
 use Rattle.dns_wire.specs.declared.record.Record.{Record}
 use Rattle.zone_build.specs.Zone.{IsPlain}
@@ -27,3 +27,9 @@ each_plain (first ∷ records) (said ∷ statements) are one holds =
 
 pub plain : (text : List ℕ) (origin : Labels) (records : List Record) → ZoneSays text origin records → (one : Record) → Contains records one → IsPlain one
 plain text origin records says one holds = each_plain records says.statements says.records_are one holds
+
+-- so are those of a text that ended well
+pub ended : {E : Type 0} (text : List ℕ) (origin : Labels) (result : Result (List Record) E) → IfOk result (ZoneSays text origin)
+    → IfOk result (λ records. (one : Record) → Contains records one → IsPlain one)
+ended text origin (Ok records) says = plain text origin records says
+ended text origin (Err fault) says = tt

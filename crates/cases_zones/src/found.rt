@@ -43,7 +43,15 @@ pub fn records_text(alloc: Global, records: &[Record]) -> Result<String, MemoryF
 /// What the zones offer as a source of rules.
 pub fn offer_text(alloc: Global, zones: &ZoneSet, name: &Name) -> Result<String, MemoryFault> {
     let mut source = ZoneSource::new(zones);
-    match source.offer(alloc, name) {
+    let offered = source.offer(alloc, name);
+    offered_text(alloc, &offered)
+}
+
+fn offered_text(
+    alloc: Global,
+    offered: &Result<Offer, SourceFault>,
+) -> Result<String, MemoryFault> {
+    match offered {
         Ok(Offer::Unserved) => Ok("\nunserved".to_string(alloc)?),
         Ok(Offer::Alias(target)) => {
             let target = text_of(alloc, target.text().as_slice())?;
