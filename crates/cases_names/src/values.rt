@@ -16,7 +16,10 @@ pub fn answer(alloc: Global, verb: &str, rest: &str) -> Result<String, MemoryFau
         "list" => list(alloc, rest),
         "front" => front(alloc, rest),
         "buffer" => buffer(alloc, rest),
-        "letter" => Ok(format!(in alloc; "{}", fold_byte(number_of(rest) as u8))?),
+        "letter" => Ok(format!(in alloc;
+            "{}",
+            fold_byte(u8::try_from(number_of(rest)).unwrap_or(0))
+        )?),
         _ => Ok(format!(in alloc; "{} bytes", size_of_steps())?),
     }
 }
