@@ -120,9 +120,9 @@ digit_char-plain x h = cond_both (nat_lt x 10) (48 + x) (87 + x) (λ c. is_plain
 no_colon : (n : ℕ) → n < 65536 → AllByRecursion (λ b. (b == colon) ≡ false) (hex n)
 no_colon n small = of_hex (λ b. (b == colon) ≡ false) digit_no_colon n small
 
--- groups behind the first
-abbrev pub groups_behind : List ℕ → List ℕ
-groups_behind groups = flat_map (λ group. codes ":" ++ hex group) groups
+-- groups after the first
+abbrev pub groups_after : List ℕ → List ℕ
+groups_after groups = flat_map (λ group. codes ":" ++ hex group) groups
 
 last-group : (n : ℕ) → n < 65536 → last_group true (hex n) ≡ Some (octets_of (n ∷ []))
 unfolding last_group
@@ -130,18 +130,18 @@ last-group n small = let is = group_back n small in rw is refl
 
 -- groups are read from their text
 groups_back : (more first : ℕ) (rest : List ℕ) → length rest < more → first < 65536 → AllByRecursion (λ n. n < 65536) rest
-    → groups_of more true (hex first ++ groups_behind rest) ≡ Some (octets_of (first ∷ rest))
+    → groups_of more true (hex first ++ groups_after rest) ≡ Some (octets_of (first ∷ rest))
 groups_back zero first rest room small all = absurd (omega arith)
 groups_back (suc more) first [] room small all =
     let whole : hex first ++ [] ≡ hex first = append-nil (hex first) in
     ap (groups_of (suc more) true) whole ∙ groups-last (suc more) true (hex first) (omega arith) (cut-none colon (hex first) (no_colon first small)) ∙ last-group first small
 groups_back (suc more) first (next ∷ rest) room small all =
-    let behind : List ℕ = hex next ++ groups_behind rest in
+    let after : List ℕ = hex next ++ groups_after rest in
     let later = groups_back more next rest (omega arith) all.0 all.1 in
     let count : suc more - 1 ≡ more = omega arith in
-    groups-step (suc more) true (hex first ++ groups_behind (next ∷ rest)) (hex first) behind (omega arith) (cut-at colon (hex first) behind (no_colon first small))
-    ∙ ap (λ o. o >>= λ group. bytes_before group (groups_of (suc more - 1) true behind)) (group_back first small)
-    ∙ ap (λ n. bytes_before ((first / 256) ∷ (first % 256) ∷ []) (groups_of n true behind)) count
+    groups-step (suc more) true (hex first ++ groups_after (next ∷ rest)) (hex first) after (omega arith) (cut-at colon (hex first) after (no_colon first small))
+    ∙ ap (λ o. o >>= λ group. bytes_before group (groups_of (suc more - 1) true after)) (group_back first small)
+    ∙ ap (λ n. bytes_before ((first / 256) ∷ (first % 256) ∷ []) (groups_of n true after)) count
     ∙ ap (bytes_before ((first / 256) ∷ (first % 256) ∷ [])) later
 
 -- two bytes are one group, and one group two bytes
@@ -177,16 +177,16 @@ first-no_colon : (text rest : List ℕ) → 0 < length text → AllByRecursion (
 first-no_colon [] rest some all = absurd (omega arith)
 first-no_colon (byte ∷ text) rest some all = all.0
 
-double-behind : (at : ℕ) (groups : List ℕ) → AllByRecursion (λ n. n < 65536) groups → double_from at (groups_behind groups) ≡ None
-double-behind at [] all = refl
-double-behind at (n ∷ groups) all =
-    let next = first-no_colon (hex n) (groups_behind groups) (hex-some n) (no_colon n all.0) in
-    cond-false (colon == colon && is_colon (hex n ++ groups_behind groups)) _ _ next
-    ∙ double-pass (at + 1) (hex n) (groups_behind groups) (no_colon n all.0) ∙ double-behind (at + 1 + length (hex n)) groups all.1
+double-after : (at : ℕ) (groups : List ℕ) → AllByRecursion (λ n. n < 65536) groups → double_from at (groups_after groups) ≡ None
+double-after at [] all = refl
+double-after at (n ∷ groups) all =
+    let next = first-no_colon (hex n) (groups_after groups) (hex-some n) (no_colon n all.0) in
+    cond-false (colon == colon && is_colon (hex n ++ groups_after groups)) _ _ next
+    ∙ double-pass (at + 1) (hex n) (groups_after groups) (no_colon n all.0) ∙ double-after (at + 1 + length (hex n)) groups all.1
 
 no_double : (groups : List ℕ) → AllByRecursion (λ n. n < 65536) groups → double_from 0 (groups_text groups) ≡ None
 no_double [] all = refl
-no_double (n ∷ groups) all = double-pass 0 (hex n) (groups_behind groups) (no_colon n all.0) ∙ double-behind (0 + length (hex n)) groups all.1
+no_double (n ∷ groups) all = double-pass 0 (hex n) (groups_after groups) (no_colon n all.0) ∙ double-after (0 + length (hex n)) groups all.1
 
 whole_text : (groups : List ℕ) → length groups ≡ 8 → AllByRecursion (λ n. n < 65536) groups → groups_of 8 true (groups_text groups) ≡ Some (octets_of groups)
 whole_text [] eight all = absurd (omega arith)

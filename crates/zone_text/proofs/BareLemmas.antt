@@ -29,7 +29,7 @@ ends-plain byte rest plain =
     let h : (byte == 34) ≡ false = grind (arith, nat_tests) in
     rw (a, b, c, d, e, f, g, h) refl
 
--- the scan of a bare token goes on behind a byte
+-- the scan of a bare token goes on after a byte
 goes : (escaped : Bool) (size byte : ℕ) (rest : List ℕ) → (not escaped && ends_bare (byte ∷ rest)) ≡ false → is_bare escaped (byte ∷ rest) ≡ true
     → bare_from escaped size (byte ∷ rest) ≡ bare_from (not escaped && byte == backslash) (size + 1) rest
 goes escaped size byte rest ends may = cond-false (not escaped && ends_bare (byte ∷ rest)) _ _ ends ∙ cond-true (is_bare escaped (byte ∷ rest)) _ _ may

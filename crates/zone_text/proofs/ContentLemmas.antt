@@ -31,7 +31,7 @@ use Rattle.zone_text.specs.declared.kind.Kind.{Kind}
 use Rattle.zone_token.specs.declared.fault.TextWhy.TheVariants.{BadName, BadData}
 use Rattle.zone_text.proofs.BareLemmas.{is_plain, PassesBare-plain, PassesBare-name, Begins-plain, Begins-name, no_sign}
 use Rattle.zone_text.proofs.QuotedLemmas.{string_of-quoted}
-use Rattle.zone_text.proofs.FieldTokenLemmas.{bare, between_quotes, line_behind, line_of, Reads, Reads-bare, Reads-quoted, tokens_of-line_of}
+use Rattle.zone_text.proofs.FieldTokenLemmas.{bare, between_quotes, line_after, line_of, Reads, Reads-bare, Reads-quoted, tokens_of-line_of}
 use Rattle.zone_text.proofs.NumberLemmas.{of_decimal, decimal-some, digit_plain, number_back, time_back}
 use Rattle.zone_text.proofs.StringLemmas.{strings-step}
 use Rattle.zone_text.proofs.WrittenLemmas.{length-segments}
@@ -54,8 +54,8 @@ tokens_in (content.Naptr rule) =
 tokens_in (content.Opt options) = []
 tokens_in (content.Raw bytes) = []
 
--- strings behind the first
-strings-line : (texts : List (List ℕ)) → flat_map (λ text. codes " " ++ quoted text) texts ≡ line_behind (map between_quotes texts)
+-- strings after the first
+strings-line : (texts : List (List ℕ)) → flat_map (λ text. codes " " ++ quoted text) texts ≡ line_after (map between_quotes texts)
 strings-line [] = refl
 strings-line (text ∷ texts) = ap (λ l. (codes " " ++ quoted text) ++ l) (strings-line texts)
 

@@ -48,11 +48,11 @@ pub cut-at : (byte : ℕ) (part rest : List ℕ) → AllByRecursion (λ b. (b ==
 unfolding cut
 cut-at byte part rest all =
     let text : List ℕ = part ++ byte ∷ rest in
-    let behind : drop (length part + 1) text ≡ rest =
+    let after : drop (length part + 1) text ≡ rest =
     ap (λ n. drop n text) (let e : length part + 1 ≡ length (part ++ byte ∷ []) = omega (arith, length-append part (byte ∷ [])) in e)
     ∙ ap (drop (length (part ++ byte ∷ []))) (sym (append_assoc part (byte ∷ []) rest)) ∙ drop-append_seam (part ++ byte ∷ []) rest in
     ap (option_map (λ at. (take at text, drop (at + 1) text))) (position-at (λ b. b == byte) part rest byte all (eq-eqb byte byte refl))
-    ∙ ap (λ t. Some (t, drop (length part + 1) text)) (take-append_seam part (byte ∷ rest)) ∙ ap (λ t. Some (part, t)) behind
+    ∙ ap (λ t. Some (t, drop (length part + 1) text)) (take-append_seam part (byte ∷ rest)) ∙ ap (λ t. Some (part, t)) after
 
 pub cut-none : (byte : ℕ) (text : List ℕ) → AllByRecursion (λ b. (b == byte) ≡ false) text → cut byte text ≡ None
 unfolding cut

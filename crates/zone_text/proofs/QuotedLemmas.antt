@@ -17,12 +17,12 @@ use Rattle.zone_token.proofs.TextLemmas.{bytes_before, undone-step}
 pub digit_is : (n : ℕ) → n ≤ 9 → is_ascii_digit (48 + n) ≡ true
 digit_is n h = and_from _ _ (le-leb 48 (48 + n) (omega arith)) (le-leb (48 + n) 57 (omega arith))
 
--- three digits behind a backslash
+-- three digits after a backslash
 pub escaped-decimal : (x y z : ℕ) (rest : List ℕ) → is_ascii_digit x ≡ true → is_ascii_digit y ≡ true → is_ascii_digit z ≡ true → decimal_of x y z ≤ 255 → escaped_byte (x ∷ y ∷ z ∷ rest) ≡ Some (decimal_of x y z, 3)
 escaped-decimal x y z rest hx hy hz small =
     cond-true (is_ascii_digit x) _ _ hx ∙ cond-true (is_ascii_digit y && is_ascii_digit z && nat_le (decimal_of x y z) 255) _ _ (and_from _ _ (and_from _ _ hy hz) (le-leb (decimal_of x y z) 255 small))
 
--- the scan of a quoted token goes on behind a byte
+-- the scan of a quoted token goes on after a byte
 goes : (escaped : Bool) (size byte : ℕ) (rest : List ℕ) → (byte == line_feed) ≡ false → (not escaped && byte == quote) ≡ false → is_in_quotes escaped (byte ∷ rest) ≡ true
     → quoted_from escaped size (byte ∷ rest) ≡ quoted_from (not escaped && byte == backslash) (size + 1) rest
 goes escaped size byte rest line closing inside =

@@ -20,7 +20,7 @@ use Rattle.zone_text.specs.declared.fault.TextFault.{TextFault}
 use Rattle.zone_text.proofs.RunLemmas.{run-append, run-done, run-say, run-break, break-run, break-more}
 use Rattle.zone_text.proofs.EntryLemmas.{entries-split, ended-split, rest-split, too_large, run-over}
 
--- what a text was left with, where more stands behind it
+-- what a text was left with, where more stands after it
 begun-is : (text piece : List ℕ) (size : ℕ) → size ≤ length text → take (length text - size) (drop size (text ++ piece)) ≡ drop size text
 begun-is text piece size within =
     let left : length text - size ≡ length (drop {A = ℕ} size text) = omega (arith, length-drop size text) in
@@ -40,9 +40,9 @@ entries-more : (text piece : List ℕ) (size : ℕ) (spot : Spot) → rest_of te
 entries-more text piece size spot rest =
     entries-split [] beginning text piece ∙ ap (λ (r : List ℕ × Spot). ended_of text ++ entries_from r.0 r.1 piece) rest
 
--- entries behind those that were read
-run-behind : (origin : Labels) (read : Read) (some more : List (List ℕ)) → run (unread origin) some ≡ Ok read → run (unread origin) (some ++ more) ≡ run read more
-run-behind origin read some more is = run-append (unread origin) some more ∙ ap (λ (o : Result Read TextFault). o >>= λ n. run n more) is
+-- entries after those that were read
+run-after : (origin : Labels) (read : Read) (some more : List (List ℕ)) → run (unread origin) some ≡ Ok read → run (unread origin) (some ++ more) ≡ run read more
+run-after origin read some more is = run-append (unread origin) some more ∙ ap (λ (o : Result Read TextFault). o >>= λ n. run n more) is
 
 -- what a scan from the old text's end starts with
 pub scan-from : (text whole piece : List ℕ) (size at : ℕ) → whole ≡ text ++ piece → at ≡ length text → size ≤ length text → (take (at - size) (drop size whole) ≡ drop size text) × (drop at whole ≡ piece)
@@ -55,7 +55,7 @@ scan-from text whole piece size at is place within = (
 pub piece_read : (origin : Labels) (text whole piece : List ℕ) (old new : Progress) (spot last : Spot) → IsReading origin text old spot → whole ≡ text ++ piece → run (seen old) (ended_from (drop old.size text) spot piece) ≡ Ok (seen new) → rest_from (drop old.size text) spot piece ≡ (drop new.size whole, last) → new.size ≤ length whole → length whole ≤ most_bytes → IsReading origin whole new last
 piece_read origin text whole piece old new spot last reading is ended rest within small = record {
   ended = ap (λ t. run (unread origin) (ended_of t)) is ∙ ap (run (unread origin)) (ended-more text piece old.size spot reading.rest)
-      ∙ run-behind origin (seen old) (ended_of text) (ended_from (drop old.size text) spot piece) reading.ended ∙ ended;
+      ∙ run-after origin (seen old) (ended_of text) (ended_from (drop old.size text) spot piece) reading.ended ∙ ended;
   rest = ap rest_of is ∙ rest-more text piece old.size spot reading.rest ∙ rest;
   within = within;
   small = small;
@@ -65,7 +65,7 @@ piece_read origin text whole piece old new spot last reading is ended rest withi
 pub piece_broken : (origin : Labels) (text piece more : List ℕ) (old : Progress) (spot : Spot) (fault : TextFault) → IsReading origin text old spot → run (seen old) (ended_from (drop old.size text) spot piece) ≡ Err fault → BreaksSoFar (text ++ (piece ++ more)) origin fault.line fault.why
 piece_broken origin text piece more old spot fault reading ended =
     let broken : run (unread origin) (ended_of (text ++ piece)) ≡ Err fault =
-    ap (run (unread origin)) (ended-more text piece old.size spot reading.rest) ∙ run-behind origin (seen old) (ended_of text) (ended_from (drop old.size text) spot piece) reading.ended ∙ ended in
+    ap (run (unread origin)) (ended-more text piece old.size spot reading.rest) ∙ run-after origin (seen old) (ended_of text) (ended_from (drop old.size text) spot piece) reading.ended ∙ ended in
     let rest = rest_of (text ++ piece) in
     let P : List (List ℕ) → Type 0 = λ es. Break origin es fault.line fault.why in
     inl (subst P (sym (ap ended_of (sym (append_assoc text piece more)) ∙ ended-split [] beginning (text ++ piece) more)) (break-more origin (ended_of (text ++ piece)) (ended_from rest.0 rest.1 more) fault.line fault.why (run-break origin (ended_of (text ++ piece)) fault broken)))
@@ -75,13 +75,13 @@ pub piece_over : (origin : Labels) (text whole piece more : List ℕ) (old new :
 piece_over origin text whole piece more old new spot last reading is ended rest within over =
     let read : run (unread origin) (ended_of whole) ≡ Ok (seen new) =
     ap (λ t. run (unread origin) (ended_of t)) is ∙ ap (run (unread origin)) (ended-more text piece old.size spot reading.rest)
-    ∙ run-behind origin (seen old) (ended_of text) (ended_from (drop old.size text) spot piece) reading.ended ∙ ended in
+    ∙ run-after origin (seen old) (ended_of text) (ended_from (drop old.size text) spot piece) reading.ended ∙ ended in
     let left : rest_of whole ≡ (drop new.size whole, last) = ap rest_of is ∙ rest-more text piece old.size spot reading.rest ∙ rest in
     let d = run-done (unread origin) (seen new) (ended_of whole) read in
     let size : new.size ≤ most_bytes = d.small (omega arith) in
     let rest_length = length-drop new.size whole in
     let broken : run (unread origin) (entries_of (whole ++ more)) ≡ too_large new.line =
-    ap (run (unread origin)) (entries-more whole more new.size last left) ∙ run-behind origin (seen new) (ended_of whole) (entries_from (drop new.size whole) last more) read
+    ap (run (unread origin)) (entries-more whole more new.size last left) ∙ run-after origin (seen new) (ended_of whole) (entries_from (drop new.size whole) last more) read
     ∙ run-over (seen new) (drop new.size whole) last more (omega (arith, rest_length)) (omega (arith, rest_length)) in
     let same : whole ++ more ≡ text ++ (piece ++ more) = ap (λ t. t ++ more) is ∙ append_assoc text piece more in
     let P : List ℕ → Type 0 = λ t. Break origin (entries_of t) new.line TooLarge in
@@ -99,7 +99,7 @@ not_broken origin text progress spot line why reading (inr b) = omega (arith, re
 pub entries-whole : (origin : Labels) (text : List ℕ) (progress : Progress) (spot : Spot) → IsReading origin text progress spot → run (unread origin) (entries_of text) ≡ run (seen progress) (last_entry (drop progress.size text))
 entries-whole origin text progress spot reading =
     ap (λ t. run (unread origin) (entries_of t)) (sym (append-nil text)) ∙ ap (run (unread origin)) (entries-more text [] progress.size spot reading.rest)
-    ∙ run-behind origin (seen progress) (ended_of text) (last_entry (drop progress.size text)) reading.ended
+    ∙ run-after origin (seen progress) (ended_of text) (last_entry (drop progress.size text)) reading.ended
 
 pub last-none : (read : Read) (left : List ℕ) → length left ≡ 0 → run read (last_entry left) ≡ Ok read
 last-none read [] none = refl

@@ -7,7 +7,7 @@ use Rattle.dns_wire.specs.declared.content.Content.{Content}
 use Rattle.dns_wire.specs.declared.content.Content.TheVariants as content
 use Rattle.dns_wire.specs.declared.record.Record as wire
 use Rattle.zone_token.specs.Entries.{entries_of}
-use Rattle.zone_text.specs.Zone.{most_bytes, beginning_with, standing_behind, Mean, statements_of, Is, Are, Say, Break, ZoneSays, ZoneBreaks, BreaksSoFar}
+use Rattle.zone_text.specs.Zone.{most_bytes, beginning_with, advanced, Mean, statements_of, Is, Are, Say, Break, ZoneSays, ZoneBreaks, BreaksSoFar}
 use Rattle.zone_text.specs.Meaning.{is_whole_meaning}
 use Rattle.zone_text.specs.declared.meaning.Standing.{Standing}
 use Rattle.zone_text.specs.declared.meaning.Statement.{Statement}
@@ -56,7 +56,7 @@ records-exist standing [] [] mean = ([], tt)
 records-exist standing [] (meaning ∷ meanings) mean = absurd mean
 records-exist standing (entry ∷ entries) [] mean = absurd mean
 records-exist standing (entry ∷ entries) (meaning ∷ meanings) mean =
-    records-more meaning meanings (entry_is_whole standing entry meaning mean.0) (records-exist (standing_behind standing meaning) entries meanings mean.1)
+    records-more meaning meanings (entry_is_whole standing entry meaning mean.0) (records-exist (advanced standing meaning) entries meanings mean.1)
 
 -- a text says records or breaks
 pub reads_or_breaks : (text : List ℕ) (origin : Labels) → ((records : List wire.Record) × ZoneSays text origin records) ⊎ ((line : ℕ) × (why : TextWhy) × ZoneBreaks text origin line why)

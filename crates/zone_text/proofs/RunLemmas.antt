@@ -7,8 +7,8 @@ use Rattle.zone_token.specs.Bytes.{line_feed}
 use Rattle.naptr_data.specs.Zones.{Labels}
 use Rattle.zone_token.specs.Tokens.{◌>>=◌ as ◌then◌}
 use Rattle.zone_text.specs.Meaning.{entry_of}
-use Rattle.zone_text.specs.Zone.{most_bytes, most_records, beginning_with, standing_behind, standing_after, Mean, said_in, statements_of, bytes_of, lines_in, unless_full, entry_within, Say, Break}
-use Rattle.zone_text.specs.Reading.{Read, unread, read_behind, on_line, step, run, ◌>>=◌}
+use Rattle.zone_text.specs.Zone.{most_bytes, most_records, beginning_with, advanced, standing_after, Mean, said_in, statements_of, bytes_of, lines_in, unless_full, entry_within, Say, Break}
+use Rattle.zone_text.specs.Reading.{Read, unread, read_after, on_line, step, run, ◌>>=◌}
 use Rattle.zone_text.specs.declared.meaning.Standing.{Standing}
 use Rattle.zone_text.specs.declared.meaning.Statement.{Statement}
 use Rattle.zone_text.specs.declared.meaning.Meaning.{Meaning}
@@ -33,7 +33,7 @@ pub record Stepped (read next : Read) (entry : List ℕ) : Type 0 where
   pub means : entry_of read.standing entry ≡ Ok meaning
   pub small : read.size + length entry ≤ most_bytes
   pub few : length read.said ≤ most_records → length (read.said ++ said_in meaning) ≤ most_records
-  pub behind : next ≡ read_behind read entry meaning
+  pub after : next ≡ read_after read entry meaning
 
 full-record : (number : ℕ) (said : Statement) (meaning : Meaning) (t : Bool) → (number == most_records) ≡ t → cond t (Err TooMany) (Ok (Record said)) ≡ Ok meaning → (meaning ≡ Record said) × (number ≤ most_records → number + 1 ≤ most_records)
 full-record number said meaning true test is = cc
@@ -48,32 +48,32 @@ full-ok number (Origin name) meaning is = let e : Origin name ≡ meaning = cc i
 full-ok number (DefaultTtl ttl) meaning is = let e : DefaultTtl ttl ≡ meaning = cc in (sym e, λ below. omega arith)
 full-ok number (Record said) meaning is = full-record number said meaning (number == most_records) refl is
 
-step-met : (read next : Read) (entry : List ℕ) (first : Meaning) → entry_of read.standing entry ≡ Ok first → read.size + length entry ≤ most_bytes → (room : Result Meaning TextWhy) → unless_full (length read.said) first ≡ room → on_line read.line room (λ m. Ok (read_behind read entry m)) ≡ Ok next → Stepped read next entry
+step-met : (read next : Read) (entry : List ℕ) (first : Meaning) → entry_of read.standing entry ≡ Ok first → read.size + length entry ≤ most_bytes → (room : Result Meaning TextWhy) → unless_full (length read.said) first ≡ room → on_line read.line room (λ m. Ok (read_after read entry m)) ≡ Ok next → Stepped read next entry
 step-met read next entry first means small (Err why) met is = cc
 step-met read next entry first means small (Ok meaning) met is =
     let full = full-ok (length read.said) first meaning met in
     let same : meaning ≡ first = full.0 in
-    let e : read_behind read entry meaning ≡ next = cc in
+    let e : read_after read entry meaning ≡ next = cc in
     record {
       meaning = first;
       means = means;
       small = small;
       few = λ below. omega (arith, full.1 below, length-append read.said (said_in first));
-      behind = sym e ∙ ap (read_behind read entry) same;
+      after = sym e ∙ ap (read_after read entry) same;
     }
 
-step-within : (read next : Read) (entry : List ℕ) (r : Result Meaning TextWhy) → entry_of read.standing entry ≡ r → read.size + length entry ≤ most_bytes → on_line read.line (r then unless_full (length read.said)) (λ m. Ok (read_behind read entry m)) ≡ Ok next → Stepped read next entry
+step-within : (read next : Read) (entry : List ℕ) (r : Result Meaning TextWhy) → entry_of read.standing entry ≡ r → read.size + length entry ≤ most_bytes → on_line read.line (r then unless_full (length read.said)) (λ m. Ok (read_after read entry m)) ≡ Ok next → Stepped read next entry
 step-within read next entry (Err why) means small is = cc
 step-within read next entry (Ok first) means small is = step-met read next entry first means small (unless_full (length read.said) first) refl is
 
-step-sized : (read next : Read) (entry : List ℕ) (t : Bool) → nat_lt most_bytes (read.size + length entry) ≡ t → on_line read.line (cond t (Err TooLarge) (entry_of read.standing entry then unless_full (length read.said))) (λ m. Ok (read_behind read entry m)) ≡ Ok next → Stepped read next entry
+step-sized : (read next : Read) (entry : List ℕ) (t : Bool) → nat_lt most_bytes (read.size + length entry) ≡ t → on_line read.line (cond t (Err TooLarge) (entry_of read.standing entry then unless_full (length read.said))) (λ m. Ok (read_after read entry m)) ≡ Ok next → Stepped read next entry
 step-sized read next entry true test is = cc
 step-sized read next entry false test is = step-within read next entry (entry_of read.standing entry) refl (ltb-false most_bytes (read.size + length entry) test) is
 
 step-ok : (read next : Read) (entry : List ℕ) → step read entry ≡ Ok next → Stepped read next entry
 step-ok read next entry is = step-sized read next entry (nat_lt most_bytes (read.size + length entry)) refl is
 
--- what entries mean that were read, and what stands behind them
+-- what entries mean that were read, and what stands after them
 pub record Done (read end : Read) (entries : List (List ℕ)) : Type 0 where
   pub meanings : List Meaning
   pub mean : Mean read.standing entries meanings
@@ -89,10 +89,10 @@ lines-append some more = sum_by-append (λ byte. cond (byte == line_feed) 1 0) s
 
 done-more : (read next end : Read) (entry : List ℕ) (entries : List (List ℕ)) → Stepped read next entry → Done next end entries → Done read end (entry ∷ entries)
 done-more read next end entry entries s d =
-    let line : next.line ≡ read.line + lines_in entry = ap (λ (r : Read). r.line) s.behind in
-    let size : next.size ≡ read.size + length entry = ap (λ (r : Read). r.size) s.behind in
-    let said : next.said ≡ read.said ++ said_in s.meaning = ap (λ (r : Read). r.said) s.behind in
-    let standing : next.standing ≡ standing_behind read.standing s.meaning = ap (λ (r : Read). r.standing) s.behind in
+    let line : next.line ≡ read.line + lines_in entry = ap (λ (r : Read). r.line) s.after in
+    let size : next.size ≡ read.size + length entry = ap (λ (r : Read). r.size) s.after in
+    let said : next.said ≡ read.said ++ said_in s.meaning = ap (λ (r : Read). r.said) s.after in
+    let standing : next.standing ≡ advanced read.standing s.meaning = ap (λ (r : Read). r.standing) s.after in
     let P : Standing → Type 0 = λ st. Mean st entries d.meanings in
     record {
       meanings = s.meaning ∷ d.meanings;
@@ -127,7 +127,7 @@ run-done read end (entry ∷ entries) is =
     done-step read end entry entries (step read entry) refl is (λ next more. run-done next end entries more)
 
 -- a fault of an entry that is read
-line-fault : (read : Read) (entry : List ℕ) (r : Result Meaning TextWhy) (fault : TextFault) → on_line read.line r (λ m. Ok (read_behind read entry m)) ≡ Err fault → (r ≡ Err fault.why) × (fault.line ≡ read.line)
+line-fault : (read : Read) (entry : List ℕ) (r : Result Meaning TextWhy) (fault : TextFault) → on_line read.line r (λ m. Ok (read_after read entry m)) ≡ Err fault → (r ≡ Err fault.why) × (fault.line ≡ read.line)
 line-fault read entry (Ok meaning) fault is = cc
 line-fault read entry (Err why) fault is =
     let at : TextFault = record { line = read.line; why = why } in
@@ -135,7 +135,7 @@ line-fault read entry (Err why) fault is =
     let wrapped : TextFault → Result Meaning TextWhy = λ f. Err f.why in
     (ap wrapped e, ap (λ (f : TextFault). f.line) (sym e))
 
--- the first broken entry of some, behind what was read
+-- the first broken entry of some, after what was read
 pub record Broken (read : Read) (entries : List (List ℕ)) (fault : TextFault) : Type 0 where
   pub front : List (List ℕ)
   pub entry : List ℕ
@@ -182,12 +182,12 @@ full-says number (DefaultTtl ttl) room = refl
 full-says number (Record said) room = full-room number said room
 
 -- an entry that means something is read where there is room
-step-says : (read : Read) (entry : List ℕ) (meaning : Meaning) → entry_of read.standing entry ≡ Ok meaning → read.size + length entry ≤ most_bytes → length read.said + length (said_in meaning) ≤ most_records → step read entry ≡ Ok (read_behind read entry meaning)
+step-says : (read : Read) (entry : List ℕ) (meaning : Meaning) → entry_of read.standing entry ≡ Ok meaning → read.size + length entry ≤ most_bytes → length read.said + length (said_in meaning) ≤ most_records → step read entry ≡ Ok (read_after read entry meaning)
 step-says read entry meaning means small few =
     let sized : nat_lt most_bytes (read.size + length entry) ≡ false = le-ltb most_bytes (read.size + length entry) small in
     let within : entry_within (read.size + length entry) (length read.said) read.standing entry ≡ Ok meaning =
     cond-false _ _ _ sized ∙ ap (λ o. o then unless_full (length read.said)) means ∙ full-says (length read.said) meaning few in
-    ap (λ o. on_line read.line o (λ m. Ok (read_behind read entry m))) within
+    ap (λ o. on_line read.line o (λ m. Ok (read_after read entry m))) within
 
 -- what has meanings is read where there is room
 says-run : (read : Read) (entries : List (List ℕ)) (meanings : List Meaning) → Mean read.standing entries meanings → read.size + length (bytes_of entries) ≤ most_bytes → length read.said + length (statements_of meanings) ≤ most_records → (end : Read) × (run read entries ≡ Ok end)
@@ -197,8 +197,8 @@ says-run read (entry ∷ entries) [] mean small few = absurd mean
 says-run read (entry ∷ entries) (meaning ∷ meanings) mean small few =
     let bytes = length-append entry (bytes_of entries) in
     let number = length-append (said_in meaning) (statements_of meanings) in
-    let first : step read entry ≡ Ok (read_behind read entry meaning) = step-says read entry meaning mean.0 (omega (arith, bytes)) (omega (arith, number)) in
-    let later = says-run (read_behind read entry meaning) entries meanings mean.1 (omega (arith, bytes)) (omega (arith, number, length-append read.said (said_in meaning))) in
+    let first : step read entry ≡ Ok (read_after read entry meaning) = step-says read entry meaning mean.0 (omega (arith, bytes)) (omega (arith, number)) in
+    let later = says-run (read_after read entry meaning) entries meanings mean.1 (omega (arith, bytes)) (omega (arith, number, length-append read.said (said_in meaning))) in
     (later.0, ap (λ (o : Result Read TextFault). o >>= λ n. run n entries) first ∙ later.1)
 
 -- entries have one list of meanings
@@ -210,8 +210,8 @@ mean-one standing (entry ∷ entries) [] others m n = absurd m
 mean-one standing (entry ∷ entries) (one ∷ some) [] m n = absurd n
 mean-one standing (entry ∷ entries) (one ∷ some) (other ∷ others) m n =
     let first : one ≡ other = cc (m.0, n.0) in
-    let P : Meaning → Type 0 = λ x. Mean (standing_behind standing x) entries others in
-    let rest = mean-one (standing_behind standing one) entries some others m.1 (subst P (sym first) n.1) in
+    let P : Meaning → Type 0 = λ x. Mean (advanced standing x) entries others in
+    let rest = mean-one (advanced standing one) entries some others m.1 (subst P (sym first) n.1) in
     ap (λ x. x ∷ some) first ∙ ap (λ xs. other ∷ xs) rest
 
 -- entries say what they are read as
@@ -267,7 +267,7 @@ break-run origin entries line why b =
     entry-same (length (bytes_of b.front)) middle.size (length (statements_of b.meanings)) (length middle.said) (standing_after (beginning_with origin) b.meanings) middle.standing b.entry why (omega (arith, d.size)) number standing b.broken in
     let begins : line ≡ middle.line = b.begins ∙ sym d.line in
     let told : ℕ → Result Read TextFault = λ n. Err (record { line = n; why = why }) in
-    let stop : step middle b.entry ≡ told line = ap (λ o. on_line middle.line o (λ m. Ok (read_behind middle b.entry m))) broken ∙ ap told (sym begins) in
+    let stop : step middle b.entry ≡ told line = ap (λ o. on_line middle.line o (λ m. Ok (read_after middle b.entry m))) broken ∙ ap told (sym begins) in
     ap (run (unread origin)) b.parts ∙ run-append (unread origin) b.front (b.entry ∷ b.back)
     ∙ ap (λ (o : Result Read TextFault). o >>= λ n. run n (b.entry ∷ b.back)) before.1
     ∙ ap (λ (o : Result Read TextFault). o >>= λ n. run n b.back) stop

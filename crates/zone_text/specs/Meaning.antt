@@ -65,13 +65,13 @@ unfoldable pub ttl_unless : Option ℕ → List Token → ℕ → Result (Option
 ttl_unless (Some stated) tokens place = Ok None
 ttl_unless None tokens place = ttl_at tokens place
 
--- TTL and class from a place on, each optional, in either order: the TTL, and the place behind them
+-- TTL and class from a place on, each optional, in either order: the TTL, and the place after them
 unfoldable pub head_at : List Token → ℕ → Result Head TextWhy
 head_at tokens place = do
   before ← ttl_at tokens place
   class ← class_at tokens (place + counted (is_some before))
-  behind ← ttl_unless before tokens (place + counted (is_some before) + counted class)
-  Ok (record { ttl = option_or before behind; place = place + counted (is_some before) + counted class + counted (is_some behind) })
+  after ← ttl_unless before tokens (place + counted (is_some before) + counted class)
+  Ok (record { ttl = option_or before after; place = place + counted (is_some before) + counted class + counted (is_some after) })
 
 -- the type of a bare token
 abbrev pub kind_in : Option (List ℕ) → Option Kind
@@ -155,11 +155,11 @@ directive_of origin word tokens =
     else if bytes_eq word (codes "$TTL") then (default_ttl_of tokens >>= λ ttl. Ok (DefaultTtl ttl))
     else Err UnknownDirective
 
--- a directive begins an entry, not behind a blank
+-- a directive begins an entry, not after a blank
 abbrev pub is_directive : Bool → Token → Bool
 is_directive blank token = not blank && not token.quoted && begins_with dollar token.text
 
--- what tokens mean, behind a blank at the beginning of the entry or not
+-- what tokens mean, after a blank at the beginning of the entry or not
 unfoldable pub meaning_of : Standing → Bool → List Token → Result Meaning TextWhy
 meaning_of standing blank [] = Ok Nothing
 meaning_of standing blank (token ∷ tokens) =

@@ -135,7 +135,7 @@ impl Standing {
         let head = Head::read(tokens, place)?;
         let kind = kind_at(tokens, head.place)?;
         let ttl = self.ttl_for(head.ttl, kind)?;
-        let fields = tokens_behind(tokens, head.place);
+        let fields = tokens_after(tokens, head.place);
         let content = read_content(alloc, kind, &self.origin, fields)?;
         Ok(Meaning::Record(Statement {
             owner: *owner,
@@ -176,7 +176,7 @@ impl Standing {
         }
     }
 
-    // What tokens mean, behind a blank at the beginning of the entry or not.
+    // What tokens mean, after a blank at the beginning of the entry or not.
     #[tactic(auto, unfolding(crate::specs::Meaning::meaning_of))]
     fn read_meaning(&self, alloc: Global, blank: bool, tokens: &[Token]) -> Result<Meaning, TextWhy>
         ensures value { Gives result (meaning_of self.now blank tokens.now) }
@@ -203,8 +203,8 @@ impl Standing {
     }
 }
 
-// The tokens behind a place.
-fn tokens_behind<'a, 'b>(tokens: &'b [Token<'a>], place: usize) -> &'b [Token<'a>]
+// The tokens after a place.
+fn tokens_after<'a, 'b>(tokens: &'b [Token<'a>], place: usize) -> &'b [Token<'a>]
     requires { place ≤ 4 }
     ensures { result.now ≡ drop (place + 1) tokens.now }
 {

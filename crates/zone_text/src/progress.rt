@@ -4,7 +4,7 @@ ghost use Rattle.std.specs.List.{list_all};
 ghost use Rattle.dns_wire.specs.Kinds.{is_whole};
 ghost use Rattle.zone_token.specs.declared.fault.TextWhy.TheVariants.{Memory};
 ghost use Rattle.zone_text.specs.Meaning.{is_whole_meaning};
-ghost use Rattle.zone_text.specs.Zone.{lines_in, most_bytes, said_in, standing_behind, unless_full};
+ghost use Rattle.zone_text.specs.Zone.{lines_in, most_bytes, said_in, advanced, unless_full};
 ghost use Rattle.zone_text.specs.Reading.{is_plain, said_of};
 
 use crate::fault::TextFault;
@@ -20,11 +20,11 @@ pub(crate) const MOST_BYTES: usize = 67_108_864;
 // The most records of a text.
 const MOST_RECORDS: usize = 100_000;
 
-/// The entries so far: what stands behind them, where they end, and their records.
+/// The entries so far: what stands after them, where they end, and their records.
 #[derive(Drop)]
 pub(crate) struct Progress {
     pub(crate) standing: Standing,
-    /// The line behind them, counted from 1.
+    /// The line after them, counted from 1.
     pub(crate) line: u32,
     /// How many bytes they have.
     pub(crate) size: usize,
@@ -43,9 +43,9 @@ fn lines_in(bytes: &[u8]) -> usize
 }
 
 impl Standing {
-    // What stands behind an entry of this meaning.
+    // What stands after an entry of this meaning.
     fn advance(&mut self, meaning: &Meaning)
-        ensures { self.new ≡ standing_behind self.old meaning.now }
+        ensures { self.new ≡ advanced self.old meaning.now }
     {
         match meaning {
             Meaning::Nothing => {}

@@ -20,7 +20,7 @@ pub fn push_undone(out: &mut Bytes, text: &str) -> Result<(), MemoryFault> {
     Ok(())
 }
 
-// The byte of an escape behind its backslash, and how many bytes it has there.
+// The byte of an escape after its backslash, and how many bytes it has there.
 fn escape(text: &[u8]) -> (u8, usize) {
     match text {
         [b'n', ..] => (b'\n', 1),

@@ -63,7 +63,7 @@ fn answer(alloc: Global, origin: Name, text: &str) -> Result<Bytes, MemoryFault>
     Ok(whole)
 }
 
-// Appends another answer behind its heading.
+// Appends another answer after its heading.
 fn push_other(told: &mut Bytes, heading: &[u8], other: &Bytes) -> Result<(), MemoryFault> {
     if told.as_slice() != other.as_slice() {
         told.push_slice(heading)?;

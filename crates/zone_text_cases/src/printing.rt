@@ -39,7 +39,7 @@ fn push_decimal(out: &mut Bytes, number: u64) -> Result<(), MemoryFault> {
     out.push_slice(digits.format(number).as_bytes())
 }
 
-/// Appends a line of each record behind a margin.
+/// Appends a line of each record after a margin.
 pub fn push_records(out: &mut Bytes, margin: &[u8], records: &Records) -> Result<(), MemoryFault> {
     for record in records.as_slice() {
         out.push_slice(margin)?;

@@ -1,5 +1,7 @@
 pub mod AddressLemmas
+pub mod AgreeLemmas
 pub mod CutLemmas
+pub mod EntryLemmas
 pub mod RunLemmas
 pub mod SpotLemmas
 pub mod TextLemmas

@@ -54,8 +54,8 @@ too_many front (Some bytes) long = not_short (front ++ bytes) (omega (arith, len
 -- the loop over a text: what each of its ends and its step give
 
 pub loop_goes_on : (bytes now : List ℕ) (left rest text : List ℕ) (byte more : ℕ) → bytes_before bytes (undone_from 0 left) ≡ undone_from 0 text → 0 < length left → first_byte left ≡ Some (byte, more) → now ≡ bytes ++ byte ∷ [] → rest ≡ drop (more + 1) left → bytes_before now (undone_from 0 rest) ≡ undone_from 0 text
-loop_goes_on bytes now left rest text byte more same some is pushed behind =
-    rw (pushed, behind) (sym (before-before bytes (byte ∷ []) (undone_from 0 (drop (more + 1) left))) ∙ ap (bytes_before bytes) (sym (undone-step left byte more some is)) ∙ same)
+loop_goes_on bytes now left rest text byte more same some is pushed after =
+    rw (pushed, after) (sym (before-before bytes (byte ∷ []) (undone_from 0 (drop (more + 1) left))) ∙ ap (bytes_before bytes) (sym (undone-step left byte more some is)) ∙ same)
 
 pub loop_breaks : (bytes left text : List ℕ) → bytes_before bytes (undone_from 0 left) ≡ undone_from 0 text → 0 < length left → first_byte left ≡ None → string_of text ≡ None
 unfolding string_of

@@ -3,6 +3,7 @@ pub mod Bytes
 pub mod Entries
 pub mod FaultWords
 pub mod Fields
+pub mod Laws
 pub mod Texts
 pub mod Times
 pub mod Token
