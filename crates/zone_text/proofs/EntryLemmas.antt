@@ -70,7 +70,7 @@ kept-at true entry ended going first second n m e all g = omega (arith, length-a
 kept-at false entry ended going first second n m e all g = g
 
 -- no byte is lost: those of the entries that ended and those that are left are those of the text
-kept : (begun : List ℕ) (spot : Spot) (text : List ℕ) → length (bytes_of (ended_from begun spot text)) + length (rest_from begun spot text).0 ≡ length begun + length text
+pub kept : (begun : List ℕ) (spot : Spot) (text : List ℕ) → length (bytes_of (ended_from begun spot text)) + length (rest_from begun spot text).0 ≡ length begun + length text
 kept begun spot [] = omega arith
 kept begun spot (byte ∷ text) =
     let longer = length-append begun (byte ∷ []) in
