@@ -4,7 +4,7 @@ use Rattle.std.specs.Prelude.{Contains, Ok, Err, IsTrue}
 use Rattle.std.proofs.lemmas.List.{length-append}
 use Rattle.enum_base.specs.Causes.{Rose, one_more}
 use Rattle.enum_base.specs.Outside.{WhereTold}
-use Rattle.naptr_data.specs.Sources.{SourceState, AreDistinct, HasFewRules, Fronts, Fetches, AreKept}
+use Rattle.naptr_data.specs.Sources.{SourceState, AreDistinct, HasFewRules, BringsToFront, Fetches, AreKept}
 use Rattle.naptr_data.specs.Zones.{Labels, IsOffer}
 use Rattle.naptr_data.specs.declared.offer.Offer.{Offer}
 use Rattle.ddds_walk.specs.Asking.{more}
@@ -29,7 +29,7 @@ module _ (limit : ℕ) (t u : SourceState) (asked asked' : List Labels) (next : 
 
   -- the source answers
   pub asked_ok : (o : Offer) → HasFewRules o → WhereTold t.zones (λ zones. IsOffer zones next o)
-      → (all : List Labels) × Fronts next t.kept all × (u.kept ≡ take t.room all)
+      → (all : List Labels) × BringsToFront next t.kept all × (u.kept ≡ take t.room all)
       → Fetches next t.kept t.fetched u.fetched → AreKept t.kept t.fetched
       → HasAsked limit t u asked asked' next (Ok o)
   asked_ok o few offered keeps fetches are = record {

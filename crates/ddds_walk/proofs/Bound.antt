@@ -8,7 +8,7 @@ use Rattle.naptr_data.specs.Zones.{Labels, Item, Owned, Zone, IsOffer, holds_one
 use Rattle.naptr_data.specs.Zones.Item.{rule, alias, delegation, other}
 use Rattle.naptr_data.specs.declared.offer.Offer.{Offer}
 use Rattle.naptr_data.specs.declared.offer.Offer.TheVariants as offer
-use Rattle.naptr_data.specs.declared.rule.Naptr.{Naptr}
+use Rattle.naptr_rule.specs.declared.rule.Naptr.{Naptr}
 use Rattle.naptr_data.proofs.OfferLemmas.{decides_among, alias_stands}
 use Rattle.subst_expr.specs.Laws.{OneOutput}
 use Rattle.ddds_walk.specs.declared.edge.Edge.TheVariants.{Step}

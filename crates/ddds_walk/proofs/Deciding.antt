@@ -10,7 +10,7 @@ use Rattle.dns_name.specs.Reading.{name_of}
 use Rattle.dns_name.specs.declared.fault.NameFault.{NameFault}
 use Rattle.naptr_data.proofs.DecideLemmas.{Either}
 use Rattle.naptr_data.specs.Zones.{Labels}
-use Rattle.naptr_data.specs.declared.rule.Naptr.{Naptr}
+use Rattle.naptr_rule.specs.declared.rule.Naptr.{Naptr}
 use Rattle.service_field.specs.declared.kind.Kind.{Kind}
 use Rattle.service_field.specs.declared.kind.Kind.TheVariants as kind
 use Rattle.subst_expr.specs.Laws.{OneOutput, OutputOrNone}

@@ -14,7 +14,7 @@ use Rattle.naptr_data.specs.Sources.{SourceState, AreDistinct}
 use Rattle.naptr_data.specs.Zones.{Labels, Zone, IsOffer}
 use Rattle.naptr_data.specs.declared.offer.Offer.{Offer}
 use Rattle.naptr_data.specs.declared.offer.Offer.TheVariants as offer
-use Rattle.naptr_data.specs.declared.rule.Naptr.{Naptr}
+use Rattle.naptr_rule.specs.declared.rule.Naptr.{Naptr}
 use Rattle.service_field.specs.declared.kind.Kind.{Kind}
 use Rattle.service_field.specs.declared.kind.Kind.TheVariants as kind
 use Rattle.ddds_walk.specs.Asking.{more, NeedsMore}

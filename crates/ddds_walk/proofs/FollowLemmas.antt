@@ -8,11 +8,11 @@ use Rattle.std.specs.declared.cmp.Ordering.TheVariants.{Less, Equal, Greater}
 use Rattle.std.specs.Cmp.Lexicographic.{slice_cmp}
 use Rattle.std.proofs.lemmas.Cmp.{ranked}
 use Rattle.std.proofs.lemmas.List.{append-nil, append_assoc, drop_all, drop_more}
-use Rattle.naptr_data.specs.Rank.{rank_of}
-use Rattle.naptr_data.specs.Rdata.{rdata}
+use Rattle.naptr_rule.specs.Rank.{rank_of}
+use Rattle.naptr_rule.specs.Rdata.{rdata}
 use Rattle.naptr_data.specs.Zones.{IsRising}
 use Rattle.naptr_data.specs.declared.offer.Offer.TheVariants as offer
-use Rattle.naptr_data.specs.declared.rule.Naptr.{Naptr}
+use Rattle.naptr_rule.specs.declared.rule.Naptr.{Naptr}
 use Rattle.subst_expr.specs.Laws.{OneOutput}
 use Rattle.ddds_walk.specs.Rules.{Client, Gives, IsAdmissible, AreFollowed, IsEdgeOf}
 use Rattle.ddds_walk.specs.declared.edge.Edge.{Edge}
@@ -57,7 +57,7 @@ abbrev pub IsWithin : Option ℕ → ℕ → Type 0
 IsWithin None order = Unit {0}
 IsWithin (Some least) order = order ≤ least
 
--- the edges that rules give behind an admissible rule of that ORDER, if there was one
+-- the edges that rules give after an admissible rule of that ORDER, if there was one
 abbrev pub Follows : Client → Option ℕ → List Naptr → List Edge → Type 0
 Follows c least [] edges = edges ≡ []
 Follows c least (rule ∷ rest) edges =
@@ -148,7 +148,7 @@ take_one c rule rest edge more edges rises gives is t = record {
     back r h (inl e) = has_same (rule ∷ t.chosen) rule r e (has_head t.chosen rule)
     back r h (inr k) = has_tail t.chosen rule r ((t.each r).1 (k, h.1, h.2))
 
--- behind an admissible rule those of its ORDER are taken
+-- after an admissible rule those of its ORDER are taken
 taken : (c : Client) (least : ℕ) (rules : List Naptr) (edges : List Edge) → IsRising rules
     → ((r : Naptr) → Contains rules r → least ≤ r.order) → Follows c (Some least) rules edges → Taken c least rules edges
 taken c least [] edges rises above f = take_none c least [] edges f (λ r h. absurd (has_none r h))
@@ -176,9 +176,9 @@ chosen_none c edges none = record {
   followed = record { each = λ r. (λ h. absurd (has_none r h), λ h. absurd (has_none r h.0)); rising = tt };
 }
 
-chosen_behind : (c : Client) (rule : Naptr) (rest : List Naptr) (edges : List Edge) → (IsAdmissible c rule → ⊥)
+chosen_after : (c : Client) (rule : Naptr) (rest : List Naptr) (edges : List Edge) → (IsAdmissible c rule → ⊥)
     → Chosen c rest edges → Chosen c (rule ∷ rest) edges
-chosen_behind c rule rest edges n t = record {
+chosen_after c rule rest edges n t = record {
   chosen = t.chosen;
   pairs = t.pairs;
   followed = record { each = λ r. (to r, λ h. back r h (has_cons rest rule r h.0)); rising = t.followed.rising };
@@ -218,7 +218,7 @@ chosen_from c rule rest edges rises a t = record {
 chosen_of : (c : Client) (rules : List Naptr) (edges : List Edge) → IsRising rules → Follows c None rules edges → Chosen c rules edges
 chosen_of c [] edges rises f = chosen_none c edges f
 chosen_of c (rule ∷ rest) edges rises (inl (past, none)) = absurd past
-chosen_of c (rule ∷ rest) edges rises (inr (inl (n, f))) = chosen_behind c rule rest edges n (chosen_of c rest edges rises.1 f)
+chosen_of c (rule ∷ rest) edges rises (inr (inl (n, f))) = chosen_after c rule rest edges n (chosen_of c rest edges rises.1 f)
 chosen_of c (rule ∷ rest) edges rises (inr (inr (edge, more, within, gives, is, f))) =
     chosen_from c rule rest edges rises (edge, gives)
     (take_one c rule rest edge more edges rises gives is

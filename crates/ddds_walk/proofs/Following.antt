@@ -7,11 +7,11 @@ use Rattle.dns_name.specs.Name.{folded_labels}
 use Rattle.naptr_data.proofs.DecideLemmas.{Either}
 use Rattle.naptr_data.proofs.RisingLemmas.{All-contained}
 use Rattle.naptr_data.proofs.SomeLemmas.{all_of}
-use Rattle.naptr_data.specs.Rank.{rank_of}
+use Rattle.naptr_rule.specs.Rank.{rank_of}
 use Rattle.naptr_data.specs.Zones.{Labels, Zone, IsOffer, IsRising}
 use Rattle.naptr_data.specs.declared.offer.Offer.{Offer}
 use Rattle.naptr_data.specs.declared.offer.Offer.TheVariants as offer
-use Rattle.naptr_data.specs.declared.rule.Naptr.{Naptr}
+use Rattle.naptr_rule.specs.declared.rule.Naptr.{Naptr}
 use Rattle.subst_expr.specs.Laws.{OneOutput, OutputOrNone}
 use Rattle.ddds_walk.specs.Rules.{Client, IsAdmissible, Gives, AreFollowed, IsEdgeOf}
 use Rattle.ddds_walk.specs.declared.edge.Edge.{Edge}
@@ -84,8 +84,8 @@ module _ (one : OneOutput) (some : OutputOrNone) (c : Client) where
           to r (inr k) b = low r k b
 
       -- the least of the others is, where the head is no less
-      behind : (m : Naptr) → IsLeast rules m → (IsAdmissible c x → m.order ≤ x.order) → HasLeast (x ∷ rules)
-      behind m (k, a, low) above = inr (m, (has_tail rules x m k, a, (λ r h b. to r (has_cons rules x r h) b)))
+      after : (m : Naptr) → IsLeast rules m → (IsAdmissible c x → m.order ≤ x.order) → HasLeast (x ∷ rules)
+      after m (k, a, low) above = inr (m, (has_tail rules x m k, a, (λ r h b. to r (has_cons rules x r h) b)))
         where
           to : (r : Naptr) → (x ≡ r) ⊎ Contains rules r → IsAdmissible c r → m.order ≤ r.order
           to r (inl e) b = subst (λ (v : Naptr). m.order ≤ v.order) e (above (subst (λ v. IsAdmissible c v) (sym e) b))
@@ -93,13 +93,13 @@ module _ (one : OneOutput) (some : OutputOrNone) (c : Client) where
 
       both : IsAdmissible c x → (m : Naptr) → IsLeast rules m → (x.order ≤ m.order) ⊎ (m.order ≤ x.order) → HasLeast (x ∷ rules)
       both a m is (inl less) = at_head a (λ r k b. let l = is.2 r k b in omega (arith, less, l))
-      both a m is (inr less) = behind m is (λ b. less)
+      both a m is (inr less) = after m is (λ b. less)
 
       by : Either (IsAdmissible c x) → HasLeast rules → HasLeast (x ∷ rules)
       by (inl a) (inl others) = at_head a (λ r k b. absurd (others r k b))
       by (inl a) (inr (m, is)) = both a m is (compared x.order m.order)
       by (inr fails) (inl others) = inl (λ r h a. none fails others r (has_cons rules x r h) a)
-      by (inr fails) (inr (m, is)) = behind m is (λ a. absurd (fails a))
+      by (inr fails) (inr (m, is)) = after m is (λ a. absurd (fails a))
 
   -- an admissible rule that none of these has a lesser ORDER than
   abbrev IsFollowed : List Naptr → Naptr → Type 0

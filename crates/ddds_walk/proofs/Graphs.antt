@@ -30,7 +30,7 @@ module _ {V : Type 0} (g : Graph V) where
   pub ends_marked : (a : List ℕ) (k : V) (d e : Mark V) → d ≡ e → EndsAs g k a d → EndsAs g k a e
   ends_marked a k d e p h = subst (λ w. EndsAs g k a w) p h
 
-  -- the end of a rule's mark is reached by that rule's edge, behind a derivation to its domain
+  -- the end of a rule's mark is reached by that rule's edge, after a derivation to its domain
   pub ends_by_rule : (qs : List ℕ) (k t : V) (n : ℕ) → EndsAs g k qs (by_rule t n)
       → (p : List ℕ) × (qs ≡ p ++ n ∷ []) × Leads g k p t × g.Stops t n
   ends_by_rule [] k t n (o, e) = cc

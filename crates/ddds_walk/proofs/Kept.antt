@@ -4,7 +4,7 @@ use Rattle.std.specs.Prelude.{◌↔◌, Contains}
 use Rattle.std.proofs.lemmas.List.{length_push, take_all, take-append-drop}
 use Rattle.std.proofs.lemmas.List.Elements.{Contains-append_left, Contains-append_right, Contains-append_cases, Contains-push, Contains-push_cases}
 use Rattle.enum_base.specs.Causes.{one_more}
-use Rattle.naptr_data.specs.Sources.{AreDistinct, Fronts, Fetches, AreKept}
+use Rattle.naptr_data.specs.Sources.{AreDistinct, BringsToFront, Fetches, AreKept}
 use Rattle.naptr_data.specs.Zones.{Labels}
 use Rattle.ddds_walk.specs.Asking.{more, FetchesEnough, FetchesMissing}
 use Rattle.ddds_walk.specs.Graph.{Graph}
@@ -41,16 +41,16 @@ module _ {X : Type 0} where
       by (inr k) = Contains-append_right a (x ∷ b) y (has_tail b x y k)
 
   -- an element is brought to the front of a list that has it, or has it not
-  fronts_was : (x : X) (old new : List X) → Fronts x old new → Contains old x ⊎ ¬ Contains old x
+  fronts_was : (x : X) (old new : List X) → BringsToFront x old new → Contains old x ⊎ ¬ Contains old x
   fronts_was x old new (inl (a, b, e, f)) =
       inl (has_in (a ++ x ∷ b) old x (sym e) (Contains-append_right a (x ∷ b) x (has_head b x)))
   fronts_was x old new (inr (n, f)) = inr n
 
-  fronts_first : (x : X) (old new : List X) → Fronts x old new → Contains new x
+  fronts_first : (x : X) (old new : List X) → BringsToFront x old new → Contains new x
   fronts_first x old new (inl (a, b, e, f)) = has_in (x ∷ (a ++ b)) new x (sym f) (has_head (a ++ b) x)
   fronts_first x old new (inr (n, f)) = has_in (x ∷ old) new x (sym f) (has_head old x)
 
-  fronts_stay : (x : X) (old new : List X) (d : X) → Fronts x old new → Contains old d → Contains new d
+  fronts_stay : (x : X) (old new : List X) (d : X) → BringsToFront x old new → Contains old d → Contains new d
   fronts_stay x old new d (inl (a, b, e, f)) h =
       has_in (x ∷ (a ++ b)) new d (sym f) (by (has_middle a b x d (has_in old (a ++ x ∷ b) d e h)))
     where
@@ -59,7 +59,7 @@ module _ {X : Type 0} where
       by (inr k) = has_tail (a ++ b) x d k
   fronts_stay x old new d (inr (n, f)) h = has_in (x ∷ old) new d (sym f) (has_tail old x d h)
 
-  fronts_only : (x : X) (old new : List X) (d : X) → Fronts x old new → Contains new d → (x ≡ d) ⊎ Contains old d
+  fronts_only : (x : X) (old new : List X) (d : X) → BringsToFront x old new → Contains new d → (x ≡ d) ⊎ Contains old d
   fronts_only x old new d (inl (a, b, e, f)) h = by (has_cons (a ++ b) x d (has_in new (x ∷ (a ++ b)) d f h))
     where
       by : (x ≡ d) ⊎ Contains (a ++ b) d → (x ≡ d) ⊎ Contains old d
@@ -68,7 +68,7 @@ module _ {X : Type 0} where
   fronts_only x old new d (inr (n, f)) h = has_cons old x d (has_in new (x ∷ old) d f h)
 
   -- where some list has all these elements, there are no more of them than it has
-  fronts_fit : (x : X) (old new all : List X) → Fronts x old new → AreDistinct old
+  fronts_fit : (x : X) (old new all : List X) → BringsToFront x old new → AreDistinct old
       → ((d : X) → Contains old d → Contains all d) → Contains all x → length new ≤ length all
   fronts_fit x old new all (inl (a, b, e, f)) once h k =
       let i : length old ≤ length all = distinct_fits old all once h in
@@ -158,7 +158,7 @@ part_more asked some others each name d = ((λ k. to (Contains-push_cases asked 
 -- a further ask, of a name that was not asked before, at a source that keeps `all` then, as many as there is room for
 module _ (room : ℕ) (kept : List Labels) (fetched : ℕ) (asked kept' : List Labels) (fetched' : ℕ)
     (h : HasKept room kept fetched asked kept' fetched') (name : Labels) (new : ¬ Contains asked name)
-    (all : List Labels) (fronts : Fronts name kept' all) where
+    (all : List Labels) (fronts : BringsToFront name kept' all) where
   less_has : (some : List Labels) → ((d : Labels) → Contains kept d ⊎ Contains (asked ++ name ∷ []) d → Contains some d)
       → (d : Labels) → Contains kept d ⊎ Contains asked d → Contains some d
   less_has some has d (inl k) = has d (inl k)
@@ -248,10 +248,10 @@ module _ (room : ℕ) (kept : List Labels) (fetched : ℕ) (asked kept' : List L
       by r d j (inl e) = was (h.stay (less_room r) name (inl (has_same kept d name (sym e) j)))
       by r d j (inr k) = h.lacking (less_room r) d k j
 
--- a further ask that is answered: the product is what `Keeps` says of an answer
+-- a further ask that is answered: the product is what `KeepsNames` says of an answer
 pub kept_more : (room : ℕ) (kept : List Labels) (fetched : ℕ) (asked kept' : List Labels) (fetched' : ℕ)
     → HasKept room kept fetched asked kept' fetched' → (name : Labels) → ¬ Contains asked name
-    → (kept'' : List Labels) (fetched'' : ℕ) → (all : List Labels) × Fronts name kept' all × (kept'' ≡ take room all)
+    → (kept'' : List Labels) (fetched'' : ℕ) → (all : List Labels) × BringsToFront name kept' all × (kept'' ≡ take room all)
     → Fetches name kept' fetched' fetched'' → AreKept kept' fetched'
     → HasKept room kept fetched (asked ++ name ∷ []) kept'' fetched''
 kept_more room kept fetched asked kept' fetched' h name new kept'' fetched'' (all, fronts, e) fetch are =

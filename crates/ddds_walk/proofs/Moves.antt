@@ -229,7 +229,7 @@ module _ {V : Type 0} (g : Graph V) (laws : IsGraph g) (key : V) (done : List V)
 
 module _ {V : Type 0} (g : Graph V) (laws : IsGraph g) (key : V) (done : List V) (found : List (Found V))
     (path : List ℕ) (last next : ℕ) (top : V) (w : Walked g key done found (path ++ last ∷ []) next top) where
-  -- all edges of the last domain were tried: it is finished, and the walk goes on behind the edge that led to it
+  -- all edges of the last domain were tried: it is finished, and the walk goes on after the edge that led to it
   pub leave : (up : V) → Leads g key path up
       → ((r : ℕ) (m : V) → next ≤ r → g.Steps top r m → ⊥)
       → ((r : ℕ) → next ≤ r → g.Stops top r → ⊥)

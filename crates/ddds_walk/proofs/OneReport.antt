@@ -3,7 +3,7 @@ use Rattle.std.proofs.Common.{◌≡◌, ℕ, ◌⊎◌, List, [], ◌∷◌, ma
 use Rattle.std.specs.Prelude.{Contains}
 use Rattle.naptr_data.specs.Laws.{ZonesMakeOneOffer}
 use Rattle.naptr_data.specs.Zones.{Labels, Zone}
-use Rattle.naptr_data.specs.declared.rule.Naptr.{Naptr}
+use Rattle.naptr_rule.specs.declared.rule.Naptr.{Naptr}
 use Rattle.subst_expr.specs.Laws.{OneOutput}
 use Rattle.ddds_walk.specs.declared.edge.Edge.TheVariants.{Stop}
 use Rattle.ddds_walk.specs.declared.report.End.{End}

@@ -96,7 +96,7 @@ module _ (g : Graph Labels) (key : Labels) where
   root_step zero k s = (refl, some_same key k s)
   root_step (suc r) k s = absurd (none_some k s)
 
-  -- a derivation from the root to a domain is one from the key behind the rank 0
+  -- a derivation from the root to a domain is one from the key after the rank 0
   pub leads_in : (rs : List ℕ) (d : Labels) → Leads (rooted g (key ∷ [])) None rs (Some d)
       → (qs : List ℕ) × (rs ≡ zero ∷ qs) × Leads g key qs d
   leads_in [] d l = absurd (none_some d l)

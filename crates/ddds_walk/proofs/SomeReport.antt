@@ -10,7 +10,7 @@ use Rattle.naptr_data.specs.Sources.{AreDistinct}
 use Rattle.naptr_data.specs.Zones.{Labels, Zone, IsOffer, rules_and_aliases}
 use Rattle.naptr_data.specs.declared.offer.Offer.{Offer}
 use Rattle.naptr_data.specs.declared.offer.Offer.TheVariants as offer
-use Rattle.naptr_data.specs.declared.rule.Naptr.{Naptr}
+use Rattle.naptr_rule.specs.declared.rule.Naptr.{Naptr}
 use Rattle.subst_expr.specs.Laws.{OneOutput, OutputOrNone}
 use Rattle.ddds_walk.specs.Graph.{Graph, graph_of, Passes}
 use Rattle.ddds_walk.specs.Report.{IsLeastLoop, Answers}
@@ -107,7 +107,7 @@ module _ (offers : ZonesMakeOneOffer) (one : OneOutput) (some : OutputOrNone) (c
         let b : sum_by left_at (f ∷ []) ≡ left_at f = omega arith in
         omega (arith, low))
 
-    -- behind the edge
+    -- after the edge
     onward : (edge : Edge) (more : List End) → slice_get top.edges top.rank ≡ Some edge
         → IsState c zones key asked more below (record top { rank = top.rank + 1 }) → Answered
     onward edge more e t =

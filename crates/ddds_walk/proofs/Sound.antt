@@ -6,7 +6,7 @@ use Rattle.std.proofs.lemmas.List.{map-append, length-map, length-drop}
 use Rattle.std.proofs.lemmas.List.Sums.{sum_by-append}
 use Rattle.std.proofs.lemmas.Option.{slice_get_within, slice_get_cases}
 use Rattle.naptr_data.specs.Zones.{Labels}
-use Rattle.naptr_data.specs.declared.rule.Naptr.{Naptr}
+use Rattle.naptr_rule.specs.declared.rule.Naptr.{Naptr}
 use Rattle.ddds_walk.specs.Turns.{IsSound, IsPast, IsWay, left_at, left_in, IsNextEnd, HasMoved}
 use Rattle.ddds_walk.specs.Ways.{path_of, domains_of}
 use Rattle.ddds_walk.specs.declared.edge.Edge.{Edge}
@@ -76,7 +76,7 @@ way_count [] h = absurd h
 way_count (None ∷ xs) h = omega (arith, named_count xs h)
 way_count (Some x ∷ xs) h = absurd h
 
--- the walk with its topmost frame behind the edge that it stood at, and with these ends
+-- the walk with its topmost frame after the edge that it stood at, and with these ends
 abbrev pub onward : Walker → List End → Walker
 onward w ends = record w { ends = ends; top = record w.top { rank = w.top.rank + 1 } }
 

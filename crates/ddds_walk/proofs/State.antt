@@ -4,7 +4,7 @@ use Rattle.std.proofs.lemmas.List.{map-append}
 use Rattle.std.specs.Prelude.{Contains, Option, Some, None, slice_get}
 use Rattle.std.proofs.lemmas.List.Elements.{Contains-append_left, Contains-push, Contains-push_cases}
 use Rattle.naptr_data.specs.Zones.{Labels, Zone}
-use Rattle.naptr_data.specs.declared.rule.Naptr.{Naptr}
+use Rattle.naptr_rule.specs.declared.rule.Naptr.{Naptr}
 use Rattle.ddds_walk.specs.Graph.{Graph, graph_of, Leads}
 use Rattle.ddds_walk.specs.Report.{IsEnd}
 use Rattle.ddds_walk.specs.Rules.{Client, IsEdge}
@@ -31,25 +31,25 @@ edge_steps c zones keys None edges r m t e =
 edge_steps c zones keys (Some d) edges r m t e = (t r (Step m)).0 e
 
 -- where no edge is told at the cursor, none is of that rank or a greater one
-none_behind : {X : Type 0} (n m : ℕ) (xs : List X) (x : X) → slice_get xs n ≡ None → n ≤ m → slice_get xs m ≡ Some x → ⊥
-none_behind n m [] x e l s = cc
-none_behind zero m (z ∷ xs) x e l s = cc
-none_behind (suc n) zero (z ∷ xs) x e l s = omega arith
-none_behind (suc n) (suc m) (z ∷ xs) x e l s = none_behind n m xs x e (omega arith) s
+none_after : {X : Type 0} (n m : ℕ) (xs : List X) (x : X) → slice_get xs n ≡ None → n ≤ m → slice_get xs m ≡ Some x → ⊥
+none_after n m [] x e l s = cc
+none_after zero m (z ∷ xs) x e l s = cc
+none_after (suc n) zero (z ∷ xs) x e l s = omega arith
+none_after (suc n) (suc m) (z ∷ xs) x e l s = none_after n m xs x e (omega arith) s
 
 pub no_steps : (c : Client) (zones : List Zone) (keys : List Labels) (domain : Option Labels) (edges : List Edge) (r : ℕ)
     → Tells c zones keys domain edges → slice_get edges r ≡ None
     → (s : ℕ) (m : Option Labels) → r ≤ s → (tree_of c zones keys).Steps domain s m → ⊥
 no_steps c zones keys None edges r t e s None l x = x
-no_steps c zones keys None edges r t e s (Some m) l x = none_behind r s edges (Step m) e l ((t s (Step m)).1 (m, x, refl))
+no_steps c zones keys None edges r t e s (Some m) l x = none_after r s edges (Step m) e l ((t s (Step m)).1 (m, x, refl))
 no_steps c zones keys (Some d) edges r t e s None l x = x
-no_steps c zones keys (Some d) edges r t e s (Some m) l x = none_behind r s edges (Step m) e l ((t s (Step m)).1 x)
+no_steps c zones keys (Some d) edges r t e s (Some m) l x = none_after r s edges (Step m) e l ((t s (Step m)).1 x)
 
 pub no_stops : (c : Client) (zones : List Zone) (keys : List Labels) (domain : Option Labels) (edges : List Edge) (r : ℕ)
     → Tells c zones keys domain edges → slice_get edges r ≡ None
     → (s : ℕ) → r ≤ s → (tree_of c zones keys).Stops domain s → ⊥
 no_stops c zones keys None edges r t e s l x = x
-no_stops c zones keys (Some d) edges r t e s l (rule, o, x) = none_behind r s edges (Stop rule o) e l ((t s (Stop rule o)).1 x)
+no_stops c zones keys (Some d) edges r t e s l (rule, o, x) = none_after r s edges (Stop rule o) e l ((t s (Stop rule o)).1 x)
 
 -- the last rank of a derivation that goes on by a rank
 last_push : (rs : List ℕ) (r : ℕ) → last_rank (rs ++ r ∷ []) ≡ r
@@ -93,7 +93,7 @@ module _ (c : Client) (zones : List Zone) (key : Labels) where
     way_on m (inr e) =
         has_same (domains_of below ++ top.domain ∷ []) top.domain (Some m) e (Contains-push (domains_of below) top.domain)
 
-    -- the topmost frame goes on behind the edge that it stood at
+    -- the topmost frame goes on after the edge that it stood at
     next_frame : IsFrame c zones (key ∷ []) below (record top { rank = top.rank + 1 })
     next_frame = record {
       leads = s.at_top.leads;

@@ -7,13 +7,13 @@ use Rattle.std.specs.declared.cmp.Ordering.TheVariants.{Less}
 use Rattle.std.proofs.lemmas.Cmp.{tied_itself}
 use Rattle.dns_name.specs.Name.{folded_labels}
 use Rattle.naptr_data.specs.Laws.{ZonesMakeOneOffer}
-use Rattle.naptr_data.specs.Rank.{rank_of}
+use Rattle.naptr_rule.specs.Rank.{rank_of}
 use Rattle.naptr_data.specs.Zones.{Labels, Zone, IsOffer, IsRising}
 use Rattle.naptr_data.specs.declared.offer.Offer.{Offer}
 use Rattle.naptr_data.specs.declared.offer.Offer.TheVariants as offer
-use Rattle.naptr_data.specs.declared.rule.Naptr.{Naptr}
+use Rattle.naptr_rule.specs.declared.rule.Naptr.{Naptr}
 use Rattle.naptr_data.proofs.RisingLemmas.{rising_same}
-use Rattle.naptr_data.proofs.RuleLemmas.{rank_of-total}
+use Rattle.naptr_rule.proofs.RuleLemmas.{rank_of-total}
 use Rattle.service_field.specs.declared.kind.Kind.{Kind}
 use Rattle.service_field.specs.declared.kind.Kind.TheVariants as kind
 use Rattle.subst_expr.specs.Laws.{OneOutput}

@@ -55,7 +55,7 @@ one_cut (x ∷ xs) ys (u ∷ us) vs p q e =
     let cut : (xs ≡ us) × (ys ≡ vs) = one_cut xs ys us vs (both_true (plain x) (list_all plain xs) p).1 (both_true (plain u) (list_all plain us) q).1 rest in
     (cc, cut.1)
 
--- what stands before the colon, and what stands behind it
+-- what stands before the colon, and what stands after it
 abbrev pub IsScheme : List ℕ → Type 0
 IsScheme bytes = (first : ℕ) × (rest : List ℕ) × (bytes ≡ first ∷ rest) × (is_ascii_alphabetic first ≡ true) × AllPass is_scheme_byte rest
 

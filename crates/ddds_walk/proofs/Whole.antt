@@ -7,7 +7,7 @@ use Rattle.dns_name.specs.Name.{folded_labels}
 use Rattle.naptr_data.specs.Laws.{ZonesMakeOneOffer}
 use Rattle.naptr_data.specs.Sources.{SourceState}
 use Rattle.naptr_data.specs.Zones.{Labels, Zone, rules_and_aliases}
-use Rattle.naptr_data.specs.declared.rule.Naptr.{Naptr}
+use Rattle.naptr_rule.specs.declared.rule.Naptr.{Naptr}
 use Rattle.subst_expr.specs.Laws.{OneOutput}
 use Rattle.ddds_walk.specs.Asking.{more, NeedsMore, IsWhole, AsksAtMost, FetchesEnough, FetchesMissing, IsLimit}
 use Rattle.ddds_walk.specs.Graph.{graph_of}

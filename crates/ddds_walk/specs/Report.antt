@@ -4,7 +4,7 @@ use Rattle.std.specs.Prelude.{◌≡◌, ℕ, List, [], ◌∷◌, ◌++◌, map
 use Rattle.naptr_data.specs.Sources.{AreDistinct}
 use Rattle.naptr_data.specs.Zones.{Labels, Zone, IsOffer}
 use Rattle.naptr_data.specs.declared.offer.Offer.TheVariants as offer
-use Rattle.naptr_data.specs.declared.rule.Naptr.{Naptr}
+use Rattle.naptr_rule.specs.declared.rule.Naptr.{Naptr}
 use Rattle.ddds_walk.specs.Graph.{Graph, graph_of, Leads, Passes}
 use Rattle.ddds_walk.specs.Order.{Less, AreRising}
 use Rattle.ddds_walk.specs.Rules.{Client, IsEdge}

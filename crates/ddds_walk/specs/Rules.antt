@@ -8,7 +8,7 @@ use Rattle.dns_name.specs.Reading.{name_of}
 use Rattle.naptr_data.specs.Zones.{Labels, Zone, IsOffer, IsRising}
 use Rattle.naptr_data.specs.declared.offer.Offer.{Offer}
 use Rattle.naptr_data.specs.declared.offer.Offer.TheVariants as offer
-use Rattle.naptr_data.specs.declared.rule.Naptr.{Naptr}
+use Rattle.naptr_rule.specs.declared.rule.Naptr.{Naptr}
 use Rattle.service_field.specs.Applications.{Meaning}
 use Rattle.service_field.specs.declared.kind.Kind.{Kind}
 use Rattle.service_field.specs.declared.kind.Kind.TheVariants as kind
@@ -40,7 +40,7 @@ pub record HasOutput (rule : Naptr) (string bytes : List ℕ) : Type 0 where
   pub some : 0 < length bytes
   pub most : length bytes ≤ 1024
 
--- a byte of a scheme behind its first letter (RFC 3986, 3.1)
+-- a byte of a scheme after its first letter (RFC 3986, 3.1)
 abbrev pub is_scheme_byte : ℕ → Bool
 is_scheme_byte b = is_ascii_alphabetic b || is_ascii_digit b || b == 43 || b == 45 || b == 46
 

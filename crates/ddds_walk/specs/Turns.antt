@@ -24,7 +24,7 @@ use Rattle.ddds_walk.specs.declared.report.Outcome.{Outcome}
 use Rattle.ddds_walk.specs.declared.report.Outcome.TheVariants.{Unserved}
 use Rattle.ddds_walk.specs.declared.report.Report.{Report}
 use Rattle.ddds_walk.specs.declared.report.Report.TheVariants as report
-use Rattle.naptr_data.specs.declared.rule.Naptr.{Naptr}
+use Rattle.naptr_rule.specs.declared.rule.Naptr.{Naptr}
 use Rattle.ddds_walk.specs.declared.walker.Next.{Next}
 use Rattle.ddds_walk.specs.declared.walker.Next.TheVariants as next
 use Rattle.ddds_walk.specs.declared.walker.Turn.{Turn}

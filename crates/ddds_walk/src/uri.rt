@@ -35,14 +35,14 @@ fn is_scheme(bytes: &[u8]) -> bool
     }
 }
 
-// Whether a scheme may have the byte behind its first letter.
+// Whether a scheme may have the byte after its first letter.
 fn is_scheme_byte(b: u8) -> bool
     ensures { result ≡ is_scheme_byte b }
 {
     b.is_ascii_alphanumeric() || b == b'+' || b == b'-' || b == b'.'
 }
 
-// Whether the bytes can stand behind the colon.
+// Whether the bytes can stand after the colon.
 fn is_rest(bytes: &[u8]) -> bool
     ensures { IsTrue result ↔ ((0 < length bytes.now) × AllPass is_visible bytes.now) }
 {

@@ -7,7 +7,7 @@ use Rattle.dns_wire.specs.declared.record.Record.{Record}
 use Rattle.enum_base.specs.Loading.{AreTaken, TakesAtMost}
 use Rattle.enum_base.proofs.OutsideLemmas.{after-twice}
 use Rattle.enum_base.specs.Outside.{AreFirst, EndsAtEnd, File, Finds, Opens, ShelfState, WhereTold, after, file_of}
-use Rattle.naptr_data.proofs.CutLemmas.{Contains-none, head_or_behind}
+use Rattle.naptr_data.proofs.CutLemmas.{Contains-none, head_or_after}
 use Rattle.naptr_data.specs.Zones.{Labels}
 use Rattle.request_words.specs.Words.{text_at}
 use Rattle.zone_build.specs.Zone.{IsPlain}
@@ -101,7 +101,7 @@ each_plain : (records : List Record) (statements : List Statement) → Are recor
 each_plain [] statements are one holds = absurd (Contains-none one holds)
 each_plain (first ∷ records) [] are one holds = absurd are
 each_plain (first ∷ records) (said ∷ statements) are one holds =
-    elim (head_or_behind first records one holds) [
+    elim (head_or_after first records one holds) [
       | inl is ↦ subst IsPlain (sym is) (record { class = are.0.class; whole = are.0.whole })
       | inr later ↦ each_plain records statements are.1 one later
     ]

@@ -9,7 +9,7 @@ use Rattle.ddds_walk.specs.declared.report.Outcome.TheVariants.{Uri, Target, Uns
 use Rattle.ddds_walk.specs.declared.report.Report.{Report}
 use Rattle.ddds_walk.specs.declared.report.Report.TheVariants.{Ends, Loop}
 use Rattle.naptr_data.specs.Zones.{Labels}
-use Rattle.naptr_data.specs.declared.rule.Naptr.{Naptr}
+use Rattle.naptr_rule.specs.declared.rule.Naptr.{Naptr}
 
 -- a path: its ranks with dots between, or `-` where it has none
 abbrev pub path_text : List ℕ → List ℕ

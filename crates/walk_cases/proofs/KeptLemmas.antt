@@ -5,10 +5,10 @@ use Rattle.std.proofs.lemmas.List.Elements.{Contains-append_left, Contains-appen
 use Rattle.std.proofs.lemmas.Str.Ascii.{lowercase-lowercase}
 use Rattle.enum_base.specs.Folding.{folded}
 use Rattle.dns_name.specs.Name.{folded_labels}
-use Rattle.naptr_data.specs.Sources.{AreDistinct, Fronts, Fetches, AreKept}
+use Rattle.naptr_data.specs.Sources.{AreDistinct, BringsToFront, Fetches, AreKept}
 use Rattle.naptr_data.specs.Zones.{Labels, IsRising}
-use Rattle.naptr_data.specs.Rank.{rank_of}
-use Rattle.naptr_data.specs.declared.rule.Naptr.{Naptr}
+use Rattle.naptr_rule.specs.Rank.{rank_of}
+use Rattle.naptr_rule.specs.declared.rule.Naptr.{Naptr}
 use Rattle.std.specs.List.{AllByRecursion}
 use Rattle.std.specs.declared.cmp.Ordering.TheVariants.{Less}
 use Rattle.std.proofs.lemmas.List.{take_rest}
@@ -51,23 +51,23 @@ has_two y z x = ((λ h. by (has_cons (z ∷ []) y x h)), from)
 
 module _ {X : Type 0} where
   -- the first of two names is this one, or the second, or none
-  pub front_first : (x y : X) (rest : List X) → y ≡ x → Fronts x (y ∷ rest) (x ∷ rest)
+  pub front_first : (x y : X) (rest : List X) → y ≡ x → BringsToFront x (y ∷ rest) (x ∷ rest)
   front_first x y rest e = inl ([], rest, ap (λ v. v ∷ rest) e, refl)
 
-  pub front_second : (x y z : X) → z ≡ x → Fronts x (y ∷ z ∷ []) (x ∷ y ∷ [])
+  pub front_second : (x y z : X) → z ≡ x → BringsToFront x (y ∷ z ∷ []) (x ∷ y ∷ [])
   front_second x y z e = inl (y ∷ [], [], ap (λ v. y ∷ v ∷ []) e, refl)
 
-  pub front_none : (x : X) → Fronts x [] (x ∷ [])
+  pub front_none : (x : X) → BringsToFront x [] (x ∷ [])
   front_none x = inr ((λ h. has_none x h), refl)
 
-  pub front_new_one : (x y : X) → (y ≡ x → ⊥) → Fronts x (y ∷ []) (x ∷ y ∷ [])
+  pub front_new_one : (x y : X) → (y ≡ x → ⊥) → BringsToFront x (y ∷ []) (x ∷ y ∷ [])
   front_new_one x y n = inr ((λ h. by (has_cons [] y x h)), refl)
     where
       by : (y ≡ x) ⊎ Contains [] x → ⊥
       by (inl e) = n e
       by (inr h) = has_none x h
 
-  pub front_new_two : (x y z : X) → (y ≡ x → ⊥) → (z ≡ x → ⊥) → Fronts x (y ∷ z ∷ []) (x ∷ y ∷ z ∷ [])
+  pub front_new_two : (x y z : X) → (y ≡ x → ⊥) → (z ≡ x → ⊥) → BringsToFront x (y ∷ z ∷ []) (x ∷ y ∷ z ∷ [])
   front_new_two x y z n m = inr ((λ h. by (has_cons (z ∷ []) y x h)), refl)
     where
       on : (z ≡ x) ⊎ Contains [] x → ⊥
@@ -98,14 +98,14 @@ module _ {X : Type 0} where
       by f (inl e) = h.0 (has_same (a ++ x ∷ b) x y (sym e) (Contains-append_right a (x ∷ b) x (has_head b x)))
       by f (inr i) = f i
 
-  fronts_once : (x : X) (old all : List X) → Fronts x old all → AreDistinct old → AreDistinct all
+  fronts_once : (x : X) (old all : List X) → BringsToFront x old all → AreDistinct old → AreDistinct all
   fronts_once x old all (inl (a, b, e, f)) h =
       let P : List X → Type 0 = λ v. AreDistinct v in
       let i : AreDistinct (a ++ x ∷ b) = subst P e h in
       subst P (sym f) (once_front a b x i, once_less a b x i)
   fronts_once x old all (inr (n, f)) h = let P : List X → Type 0 = λ v. AreDistinct v in subst P (sym f) (n, h)
 
-  fronts_only : (x : X) (old all : List X) (d : X) → Fronts x old all → Contains all d → (x ≡ d) ⊎ Contains old d
+  fronts_only : (x : X) (old all : List X) (d : X) → BringsToFront x old all → Contains all d → (x ≡ d) ⊎ Contains old d
   fronts_only x old all d (inl (a, b, e, f)) h =
       let P : List X → Type 0 = λ v. Contains v d in
       by (λ k. subst P (sym e) (has_wider a b x d k)) (has_cons (a ++ b) x d (subst P f h))
@@ -134,7 +134,7 @@ module _ {X : Type 0} where
   fewer_taken (suc n) [] = (omega arith, omega arith)
   fewer_taken (suc n) (y ∷ xs) = let h = fewer_taken n xs in (omega (arith, h.0), omega (arith, h.1))
 
-  fronts_length : (x : X) (old all : List X) → Fronts x old all
+  fronts_length : (x : X) (old all : List X) → BringsToFront x old all
       → (Contains old x × (length all ≡ length old)) ⊎ (¬ Contains old x × (length all ≡ length old + 1))
   fronts_length x old all (inl (a, b, e, f)) =
       let P : List X → Type 0 = λ v. Contains v x in
@@ -145,7 +145,7 @@ module _ {X : Type 0} where
 
 -- what is kept after an ask for a name, which is folded
 pub kept_after : (name folded : Labels) → folded ≡ folded_labels name → (old all new : List Labels) (fetched fetched' : ℕ) → AreKept old fetched
-    → Fronts folded old all → new ≡ take 2 all → Fetches folded old fetched fetched' → AreKept new fetched'
+    → BringsToFront folded old all → new ≡ take 2 all → Fetches folded old fetched fetched' → AreKept new fetched'
 kept_after name folded e old all new fetched fetched' are fronts is fetch =
     record { folded = folds; once = once; few = few (fronts_length folded old all fronts) }
   where
@@ -169,9 +169,9 @@ kept_after name folded e old all new fetched fetched' are fronts is fetch =
         let f = fetch.missing n in let k = are.few in grind (arith, t.0, t.1)
 
 pub keeps : (name folded : Labels) → folded ≡ folded_labels name → (old old' : List Labels) → old ≡ old' → (all new : List Labels)
-    → Fronts folded old all → new ≡ take 2 all → (x : List Labels) × Fronts (folded_labels name) old' x × (new ≡ take 2 x)
+    → BringsToFront folded old all → new ≡ take 2 all → (x : List Labels) × BringsToFront (folded_labels name) old' x × (new ≡ take 2 x)
 keeps name folded e old old' f all new fronts is =
-    (all, subst (λ v. Fronts v old' all) e (let P : List Labels → Type 0 = λ v. Fronts folded v all in subst P f fronts), is)
+    (all, subst (λ v. BringsToFront v old' all) e (let P : List Labels → Type 0 = λ v. BringsToFront folded v all in subst P f fronts), is)
 
 -- a name that is counted and not kept
 pub kept_same : (name : Labels) (old : List Labels) (fetched fetched' : ℕ) → AreKept old fetched → fetched ≤ fetched' → AreKept old fetched'
@@ -187,25 +187,25 @@ has_second kept first second name is n t e = subst (λ k. IsTrue t ↔ Contains 
     by (inl f) = absurd (n f)
     by (inr f) = f
 
-pub without_one : (kept : Kept) (first name : Labels) → kept ≡ One first → first ≡ name → Fronts name (names_of kept) (name ∷ [])
-without_one kept first name is e = subst (λ k. Fronts name (names_of k) (name ∷ [])) (sym is) (front_first name first [] e)
+pub without_one : (kept : Kept) (first name : Labels) → kept ≡ One first → first ≡ name → BringsToFront name (names_of kept) (name ∷ [])
+without_one kept first name is e = subst (λ k. BringsToFront name (names_of k) (name ∷ [])) (sym is) (front_first name first [] e)
 
 pub without_first : (kept : Kept) (first second name : Labels) → kept ≡ Two first second → first ≡ name
-    → Fronts name (names_of kept) (name ∷ second ∷ [])
+    → BringsToFront name (names_of kept) (name ∷ second ∷ [])
 without_first kept first second name is e =
-    subst (λ k. Fronts name (names_of k) (name ∷ second ∷ [])) (sym is) (front_first name first (second ∷ []) e)
+    subst (λ k. BringsToFront name (names_of k) (name ∷ second ∷ [])) (sym is) (front_first name first (second ∷ []) e)
 
 pub without_second : (kept : Kept) (first second name : Labels) → kept ≡ Two first second → second ≡ name
-    → Fronts name (names_of kept) (name ∷ first ∷ [])
+    → BringsToFront name (names_of kept) (name ∷ first ∷ [])
 without_second kept first second name is e =
-    subst (λ k. Fronts name (names_of k) (name ∷ first ∷ [])) (sym is) (front_second name first second e)
+    subst (λ k. BringsToFront name (names_of k) (name ∷ first ∷ [])) (sym is) (front_second name first second e)
 
 -- rules rise where the first ranks before the others, and these rise
 pub rising_by : (rules : List Naptr) (one : Naptr) → 1 ≤ length rules → one ≡ get_or rules 0 one
     → AllByRecursion (λ next. rank_of one next ≡ Less) (take (length rules - 1) (drop 1 rules)) → IsRising (take (length rules - 1) (drop 1 rules)) → IsRising rules
-rising_by [] one some is behind rising = absurd (omega (arith, some))
-rising_by (r ∷ rules) one some is behind rising =
+rising_by [] one some is after rising = absurd (omega (arith, some))
+rising_by (r ∷ rules) one some is after rising =
     let same : take (length (r ∷ rules) - 1) (drop 1 (r ∷ rules)) ≡ rules = take_rest (r ∷ rules) 1 in
     let P : List Naptr → Type 0 = λ v. AllByRecursion (λ next. rank_of one next ≡ Less) v in
     let Q : Naptr → Type 0 = λ o. AllByRecursion (λ next. rank_of o next ≡ Less) rules in
-    (subst Q is (subst P same behind), subst IsRising same rising)
+    (subst Q is (subst P same after), subst IsRising same rising)

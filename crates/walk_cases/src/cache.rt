@@ -1,7 +1,7 @@
 //! The names that a source keeps, and how many it fetched.
 ghost use Rattle.std.specs.Prelude.{◌≡◌, ◌≤◌, [], List, take};
 ghost use Rattle.dns_name.specs.Name.{folded_labels};
-ghost use Rattle.naptr_data.specs.Sources.{Fronts, Fetches, AreKept};
+ghost use Rattle.naptr_data.specs.Sources.{BringsToFront, Fetches, AreKept};
 ghost use Rattle.naptr_data.specs.Zones.{Labels};
 
 use crate::kept::{Kept, before, has, without};
@@ -56,7 +56,7 @@ impl Cache {
 
     // Counts a fetch, unless the name is kept, and keeps it.
     pub fn keep(&mut self, name: &Name)
-        ensures names { (all : List Labels) × Fronts (folded_labels name.now) self.old.names all
+        ensures names { (all : List Labels) × BringsToFront (folded_labels name.now) self.old.names all
             × (self.new.names ≡ take 2 all) }
         ensures fetched { Fetches (folded_labels name.now) self.old.names self.old.fetched self.new.fetched }
         ensures before { AreKept self.old.names self.old.fetched }

@@ -1,6 +1,6 @@
 //! Two names at most, the last asked first.
 ghost use Rattle.std.specs.Prelude.{◌≡◌, ◌∷◌, take, Contains, IsTrue, ◌↔◌};
-ghost use Rattle.naptr_data.specs.Sources.{Fronts};
+ghost use Rattle.naptr_data.specs.Sources.{BringsToFront};
 ghost use Rattle.walk_cases.specs.Names.{names_of};
 
 use dns_name::Name;
@@ -26,7 +26,7 @@ pub fn has(kept: Kept, name: Name) -> bool
 // The others.
 #[tactic(auto, using(crate::proofs::KeptLemmas::front_none, crate::proofs::KeptLemmas::front_first, crate::proofs::KeptLemmas::front_second, crate::proofs::KeptLemmas::front_new_one, crate::proofs::KeptLemmas::front_new_two))]
 pub fn without(kept: Kept, name: Name) -> Kept
-    ensures { Fronts name (names_of kept) (name ∷ names_of result) }
+    ensures { BringsToFront name (names_of kept) (name ∷ names_of result) }
 {
     match kept {
         Kept::Nothing => Kept::Nothing,

@@ -3,7 +3,7 @@ ghost use Rattle.std.specs.Prelude.{◌≡◌, ◌≤◌, [], None, Err, IsTrue,
 ghost use Rattle.std.specs.List.{AllByRecursion};
 ghost use Rattle.std.specs.declared.cmp.Ordering.TheVariants.{Less};
 ghost use Rattle.enum_base.specs.Causes.{Rose, one_more};
-ghost use Rattle.naptr_data.specs.Rank.{rank_of};
+ghost use Rattle.naptr_rule.specs.Rank.{rank_of};
 ghost use Rattle.naptr_data.specs.Sources.{HasFewRules};
 ghost use Rattle.naptr_data.specs.Zones.{IsRising};
 ghost use Rattle.naptr_data.specs.declared.source.SourceFault.TheVariants.{Trouble};
@@ -142,15 +142,15 @@ fn is_rising(rules: &[Naptr]) -> bool
 {
     match rules {
         [] => true,
-        [one, rest @ ..] => are_behind(one, rest) && is_rising(rest),
+        [one, rest @ ..] => are_after(one, rest) && is_rising(rest),
     }
 }
 
-fn are_behind(one: &Naptr, rest: &[Naptr]) -> bool
+fn are_after(one: &Naptr, rest: &[Naptr]) -> bool
     ensures { IsTrue result → AllByRecursion (λ next. rank_of one.now next ≡ Less) rest.now }
 {
     match rest {
         [] => true,
-        [next, rest @ ..] => one.cmp_rank(next) == Ordering::Less && are_behind(one, rest),
+        [next, rest @ ..] => one.cmp_rank(next) == Ordering::Less && are_after(one, rest),
     }
 }

@@ -9,7 +9,7 @@ use Rattle.dns_wire.specs.declared.record.Record.{Record}
 use Rattle.zone_build.specs.Building.{AreApart, AreSettled, settled}
 use Rattle.zone_build.specs.declared.keep.Keep.{Keep}
 
--- the records that are kept before one are done, and all others stand somewhere behind them
+-- the records that are kept before one are done, and all others stand somewhere after them
 pub record IsArranging (given : List Record) (keeps : List Keep) (next : ℕ) (items : List Record) (who at : List ℕ) : Type 0 where
   pub size : length items ≡ length given
   pub whos : length who ≡ length given
@@ -56,15 +56,15 @@ arranging_none given keeps who at is is' = record {
         ap (λ x. get_or x p 0) is ∙ get_or-range_with_len 0 (length given) p 0 h ∙ e
 
 -- the next record that is kept has not been moved to the front
-pub from_behind : (given : List Record) (keeps : List Keep) (next from : ℕ) (items : List Record) (who at : List ℕ) (keep : Keep) → IsArranging given keeps next items who at → AreApart (length given) keeps → next < length keeps → keep ≡ get_or keeps next keep → from ≡ get_or at keep.place 0 → (next ≤ from) × (from < length given) × (keep.place < length given)
-from_behind given keeps next from items who at keep m apart h is there =
+pub from_after : (given : List Record) (keeps : List Keep) (next from : ℕ) (items : List Record) (who at : List ℕ) (keep : Keep) → IsArranging given keeps next items who at → AreApart (length given) keeps → next < length keeps → keep ≡ get_or keeps next keep → from ≡ get_or at keep.place 0 → (next ≤ from) × (from < length given) × (keep.place < length given)
+from_after given keeps next from items who at keep m apart h is there =
     let place : keep.place < length given = subst (λ (k : Keep). k.place < length given) (sym is) (apart.within next keep h) in
     let f = m.found keep.place place in
-    (behind (cases_lt from next), subst (λ x. x < length given) (sym there) f.0, place)
+    (after (cases_lt from next), subst (λ x. x < length given) (sym there) f.0, place)
   where
-    behind : (from < next) ⊎ (next ≤ from) → next ≤ from
-    behind (inr le) = le
-    behind (inl lt) =
+    after : (from < next) ⊎ (next ≤ from) → next ≤ from
+    after (inr le) = le
+    after (inl lt) =
         let place : keep.place < length given = subst (λ (k : Keep). k.place < length given) (sym is) (apart.within next keep h) in
         let f = m.found keep.place place in
         let own : get_or who from 0 ≡ keep.place = subst (λ x. get_or who x 0 ≡ keep.place) (sym there) f.1 in
@@ -85,7 +85,7 @@ arranging_more given keeps next from other items who at keep x m apart h is ther
 }
   where
     b : (next ≤ from) × (from < length given) × (keep.place < length given)
-    b = from_behind given keeps next from items who at keep m apart h is there
+    b = from_after given keeps next from items who at keep m apart h is there
 
     next_in : next < length given
     next_in = let u = b.0 in let v = b.1 in omega (arith, u, v)
@@ -189,7 +189,7 @@ keep_at keeps next = get_or keeps next (record { place = 0; ttl = 0 })
 pub next_within : (given : List Record) (keeps : List Keep) (next : ℕ) (items : List Record) (who at : List ℕ) → IsArranging given keeps next items who at → AreApart (length given) keeps → next < length keeps → (next < length items) × (next < length who)
 next_within given keeps next items who at m apart h =
     let keep = keep_at keeps next in
-    let b = from_behind given keeps next (get_or at keep.place 0) items who at keep m apart h (get_or_default keeps next (record { place = 0; ttl = 0 }) keep h) refl in
+    let b = from_after given keeps next (get_or at keep.place 0) items who at keep m apart h (get_or_default keeps next (record { place = 0; ttl = 0 }) keep h) refl in
     let u = b.0 in
     let v = b.1 in
     let e = m.size in

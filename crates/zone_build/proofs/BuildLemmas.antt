@@ -5,7 +5,7 @@ use Rattle.std.specs.List.{AllByRecursion}
 use Rattle.std.proofs.lemmas.Bool.Decides.{nat_tests}
 use Rattle.std.proofs.lemmas.List.{get_or_default, get_or-take, length-take}
 use Rattle.std.proofs.lemmas.List.Elements.{Contains-append_left, Contains-append_right, Contains-append_cases}
-use Rattle.naptr_data.proofs.CutLemmas.{Contains-head, Contains-behind, Contains-none}
+use Rattle.naptr_data.proofs.CutLemmas.{Contains-head, Contains-after, Contains-none}
 use Rattle.naptr_data.proofs.BelowLemmas.{below_same_top, below_same_name}
 use Rattle.naptr_data.proofs.FoldLemmas.{same_folded}
 use Rattle.naptr_data.specs.Zones.{Labels}
@@ -193,7 +193,7 @@ parted given entries (start ∷ []) others are has only a b =
     )
 parted given entries (start ∷ next ∷ more) others are has only a b =
     let f = a.from start (Contains-head start (next ∷ more)) in
-    let g = a.from next (Contains-behind start (next ∷ more) next (Contains-head next more)) in
+    let g = a.from next (Contains-after start (next ∷ more) next (Contains-head next more)) in
     let same = only f.0.given g.0.given (given_in given entries are f.0 f.1) (given_in given entries are g.0 g.1) (at_start f.0.given.kind f.2) (at_start g.0.given.kind g.2) in
     absurd (one_rising start next more a.rising (alike_trans Whole start f.0.given next (alike_sym Whole f.0.given start (kept_repeats entries f.0 start f.3)) (alike_trans Whole f.0.given g.0.given next same (kept_repeats entries g.0 next g.3))))
 
@@ -275,6 +275,6 @@ valid_of given zone plain free built small cuts = record {
     light : (records : List Record) (owner : Labels) (kind : ℕ) (set : List Record) → ((one : Record) → Contains records one → ¬ IsLarge records one) → IsSet records owner kind set → weight set ≤ 60_000
     light records owner kind [] none s = omega arith
     light records owner kind (x ∷ set) none s =
-        let here : Contains records x = subst (λ l. Contains l x) (sym s.parts) (Contains-append_right s.before ((x ∷ set) ++ s.behind) x (Contains-head x (set ++ s.behind))) in
+        let here : Contains records x = subst (λ l. Contains l x) (sym s.parts) (Contains-append_right s.before ((x ∷ set) ++ s.after) x (Contains-head x (set ++ s.after))) in
         let not : ¬ (60_000 < weight (x ∷ set)) = λ l. none x here (x ∷ set, set_same_name records owner kind x (x ∷ set) s.each.0 s, l) in
         not_more (weight (x ∷ set)) not

@@ -12,7 +12,7 @@ use Rattle.zone_build.specs.declared.keep.Keep.{Keep}
 use Rattle.zone_build.specs.declared.fault.ZoneFault.{ZoneFault}
 use Rattle.zone_build.specs.declared.fault.ZoneFault.TheVariants as fault
 use Rattle.zone_build.proofs.BuildLemmas.{no_start, has_start, one_start, start_repeats, apex_of, inside_of, outside_first, unmixed_of, mixed_first, valid_of}
-use Rattle.zone_build.proofs.LargeLemmas.{first_at_start, first_behind, none_at_all}
+use Rattle.zone_build.proofs.LargeLemmas.{first_at_start, first_after, none_at_all}
 
 pub start_fault : (given : List Record) (entries : List Given) (f : ZoneFault) → AreGivens given entries → IsStartFault entries f → IsZoneFault given f
 start_fault given entries fault.NoSoa are none = no_start given entries are none
@@ -52,10 +52,10 @@ pub large_at_start : (kept start : List Record) (place : ℕ) → IsCanonical ke
 large_at_start [] start place c is f = absurd c
 large_at_start (a ∷ others) start place c is f = first_at_start a others place c (subst (λ l. IsFirstLarge l (Some place)) is f)
 
-pub large_behind_start : (kept start others : List Record) (place : ℕ) → IsCanonical kept → start ≡ take 1 kept → others ≡ drop 1 kept → IsFirstLarge start None → IsFirstLarge others (Some place) → IsFirstLarge kept (Some (place + 1))
-large_behind_start [] start others place c is is' none f = absurd c
-large_behind_start (a ∷ rest) start others place c is is' none f =
-    first_behind a rest place c (subst (λ l. IsFirstLarge l None) is none) (subst (λ l. IsFirstLarge l (Some place)) is' f)
+pub large_after_start : (kept start others : List Record) (place : ℕ) → IsCanonical kept → start ≡ take 1 kept → others ≡ drop 1 kept → IsFirstLarge start None → IsFirstLarge others (Some place) → IsFirstLarge kept (Some (place + 1))
+large_after_start [] start others place c is is' none f = absurd c
+large_after_start (a ∷ rest) start others place c is is' none f =
+    first_after a rest place c (subst (λ l. IsFirstLarge l None) is none) (subst (λ l. IsFirstLarge l (Some place)) is' f)
 
 pub large_nowhere : (kept start others : List Record) → IsCanonical kept → start ≡ take 1 kept → others ≡ drop 1 kept → IsFirstLarge start None → IsFirstLarge others None → IsFirstLarge kept None
 large_nowhere [] start others c is is' none f = absurd c
@@ -73,14 +73,14 @@ pub canonical_some : (kept : List Record) → IsCanonical kept → 1 ≤ length 
 canonical_some [] c = absurd c
 canonical_some (a ∷ others) c = omega arith
 
-at_middle : (before : List Record) (one : Record) (behind : List Record) (x : Record) → x ≡ get_or (before ++ one ∷ behind) (length before) x → x ≡ one
-at_middle [] one behind x is = is
-at_middle (b ∷ before) one behind x is = at_middle before one behind x is
+at_middle : (before : List Record) (one : Record) (after : List Record) (x : Record) → x ≡ get_or (before ++ one ∷ after) (length before) x → x ≡ one
+at_middle [] one after x is = is
+at_middle (b ∷ before) one after x is = at_middle before one after x is
 
 -- the first is the one that stands at its place
 pub first_at : (P : Record → Type 0) (xs : List Record) (place : ℕ) (one x : Record) → IsFirst P xs place one → x ≡ get_or xs place x → x ≡ one
 first_at P xs place one x f is =
-    at_middle f.before one f.behind x (subst (λ n. x ≡ get_or (f.before ++ one ∷ f.behind) n x) (sym f.at) (subst (λ l. x ≡ get_or l place x) f.parts is))
+    at_middle f.before one f.after x (subst (λ n. x ≡ get_or (f.before ++ one ∷ f.after) n x) (sym f.at) (subst (λ l. x ≡ get_or l place x) f.parts is))
 
 pub large_last : (kept : List Record) (cut : Option Labels) (place : ℕ) (x : Record) → IsFirstLarge kept (Some place) → x ≡ get_or kept place x → IsLastFault kept cut (fault.SetTooLarge x.owner x.kind)
 large_last kept cut place x (one, f) is =

@@ -7,7 +7,7 @@ use Rattle.std.specs.declared.cmp.Ordering.TheVariants.{Less, Equal, Greater}
 use Rattle.std.specs.Ordering.{nat_cmp}
 use Rattle.std.specs.Cmp.Lexicographic.{slice_cmp}
 use Rattle.std.proofs.lemmas.List.{take-append-drop, get_or_default}
-use Rattle.naptr_data.proofs.CutLemmas.{Contains-head, Contains-behind, Contains-none, head_or_behind}
+use Rattle.naptr_data.proofs.CutLemmas.{Contains-head, Contains-after, Contains-none, head_or_after}
 use Rattle.naptr_data.specs.Zones.{Labels}
 use Rattle.dns_name.specs.Name.{wire_of, folded_labels}
 use Rattle.dns_wire.specs.Kinds.{soa}
@@ -39,32 +39,32 @@ in_differs owner kind x y i (inr o) e =
 not_greater : (o : Ordering) → o ≡ Less → o ≢ Greater
 not_greater o e f = cc
 
--- from a place on stand its record, and others behind it
-place_or_behind : (xs : List Record) (k : ℕ) (t : Record) → IsRising xs → Contains (drop k xs) t → (y : Record) × (y ≡ get_or xs k y) × (k < length xs) × Contains xs y × ((t ≡ y) ⊎ (order_of y t ≡ Less))
-place_or_behind [] zero t r c = absurd (Contains-none t c)
-place_or_behind [] (suc k) t r c = absurd (Contains-none t c)
-place_or_behind (x ∷ xs) zero t r c = (
+-- from a place on stand its record, and others after it
+place_or_after : (xs : List Record) (k : ℕ) (t : Record) → IsRising xs → Contains (drop k xs) t → (y : Record) × (y ≡ get_or xs k y) × (k < length xs) × Contains xs y × ((t ≡ y) ⊎ (order_of y t ≡ Less))
+place_or_after [] zero t r c = absurd (Contains-none t c)
+place_or_after [] (suc k) t r c = absurd (Contains-none t c)
+place_or_after (x ∷ xs) zero t r c = (
   x,
   refl,
   omega arith,
   Contains-head x xs,
-  elim (head_or_behind x xs t c) [
+  elim (head_or_after x xs t c) [
     | inl here ↦ inl here
-    | inr behind ↦ inr (AllByRecursion-contains (λ (next : Record). order_of x next ≡ Less) xs t r.0 behind)
+    | inr after ↦ inr (AllByRecursion-contains (λ (next : Record). order_of x next ≡ Less) xs t r.0 after)
   ],
 )
-place_or_behind (x ∷ xs) (suc k) t r c =
-    let p = place_or_behind xs k t r.1 c in
+place_or_after (x ∷ xs) (suc k) t r c =
+    let p = place_or_after xs k t r.1 c in
     let l = p.2 in
-    (p.0, p.1, omega arith, Contains-behind x xs p.0 p.3, p.4)
+    (p.0, p.1, omega arith, Contains-after x xs p.0 p.3, p.4)
 
--- behind the front of an owner and kind none is of them, where records rise
+-- after the front of an owner and kind none is of them, where records rise
 pub rising_none : (owner : Labels) (kind : ℕ) (zs : List Record) (n : ℕ) (t : Record) → IsRising zs → IsFront owner kind zs n → ((d : Record) → 0 < length zs → IsIn owner kind (get_or zs 0 d)) → Contains (drop n zs) t → ¬ IsIn owner kind t
 rising_none owner kind [] zero t r f here c i = Contains-none t c
 rising_none owner kind [] (suc n) t r f here c i = Contains-none t c
 rising_none owner kind (x ∷ zs) zero t r f here c i = in_not_differs owner kind x (here x (omega arith)) (f.ends x (omega arith))
 rising_none owner kind (x ∷ zs) (suc n) t r f here c i =
-    let p = place_or_behind zs n t r.1 c in
+    let p = place_or_after zs n t r.1 c in
     let l = p.2 in
     let first : IsIn owner kind x = here x (omega arith) in
     let apart : Differs owner kind p.0 = subst (Differs owner kind) (sym p.1) (f.ends p.0 (omega arith)) in
@@ -87,25 +87,25 @@ drop_head zero xs d h = (h, refl)
 drop_head (suc at) [] d h = absurd (omega arith)
 drop_head (suc at) (x ∷ xs) d h = let p = drop_head at xs d h in let l = p.0 in (omega arith, p.1)
 
--- behind the set none is of the owner and kind
-pub none_behind : (owner : Labels) (kind : ℕ) (records : List Record) (from n : ℕ) (t : Record) → IsCanonical records → IsFrom owner kind records from → IsFront owner kind (drop from records) n → Contains (drop n (drop from records)) t → ¬ IsIn owner kind t
-none_behind owner kind [] from n t c a f k i = absurd c
-none_behind owner kind (start ∷ rest) zero zero t c a f k i = in_not_differs owner kind start (a.here start (omega arith)) (f.ends start (omega arith))
-none_behind owner kind (start ∷ rest) zero (suc n) t c a f k i =
+-- after the set none is of the owner and kind
+pub none_after : (owner : Labels) (kind : ℕ) (records : List Record) (from n : ℕ) (t : Record) → IsCanonical records → IsFrom owner kind records from → IsFront owner kind (drop from records) n → Contains (drop n (drop from records)) t → ¬ IsIn owner kind t
+none_after owner kind [] from n t c a f k i = absurd c
+none_after owner kind (start ∷ rest) zero zero t c a f k i = in_not_differs owner kind start (a.here start (omega arith)) (f.ends start (omega arith))
+none_after owner kind (start ∷ rest) zero (suc n) t c a f k i =
     let s : IsIn owner kind start = a.here start (omega arith) in
     AllByRecursion-contains (λ (one : Record). one.kind ≢ soa) rest t c.1 (drop_in n rest t k) (i.1 ∙ sym s.1 ∙ c.0)
-none_behind owner kind (start ∷ rest) (suc from) n t c a f k i =
+none_after owner kind (start ∷ rest) (suc from) n t c a f k i =
     rising_none owner kind (drop from rest) n t (IsRising-drop from rest c.2) f (λ d h. let p = drop_head from rest d h in let l = p.0 in subst (IsIn owner kind) (sym p.1) (a.here d (omega arith))) k i
 
 -- the set
 pub found_set : (owner : Labels) (kind : ℕ) (records : List Record) (from n : ℕ) (set : List Record) → IsCanonical records → IsFrom owner kind records from → IsFront owner kind (drop from records) n → set ≡ take n (drop from records) → IsSet records owner kind set
 found_set owner kind records from n set c a f is = record {
   before = take from records;
-  behind = drop n (drop from records);
+  after = drop n (drop from records);
   parts = sym (take-append-drop from records) ∙ ap (λ l. take from records ++ l) (sym (take-append-drop n (drop from records)) ∙ ap (λ l. l ++ drop n (drop from records)) (sym is));
   each = subst (AllByRecursion (IsIn owner kind)) (sym is) (AllByRecursion-made (IsIn owner kind) (take n (drop from records)) f.each);
   none_before = AllByRecursion-made (λ one. ¬ IsIn owner kind one) (take from records) (λ r k i. in_not_differs owner kind r i (a.none r k));
-  none_behind = AllByRecursion-made (λ one. ¬ IsIn owner kind one) (drop n (drop from records)) (λ t k. none_behind owner kind records from n t c a f k);
+  none_after = AllByRecursion-made (λ one. ¬ IsIn owner kind one) (drop n (drop from records)) (λ t k. none_after owner kind records from n t c a f k);
 }
 
 -- loops

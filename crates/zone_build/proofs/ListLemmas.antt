@@ -5,7 +5,7 @@ use mathlib.Core.Bool.{beq}
 use Rattle.std.specs.List.{AllByRecursion}
 use Rattle.std.proofs.lemmas.List.{take_more, take_all, take-append-drop, map-append}
 use Rattle.std.proofs.lemmas.List.Elements.{Contains-append_left, Contains-append_right, Contains-append_cases, Contains-push_cases}
-use Rattle.naptr_data.proofs.CutLemmas.{Contains-head, Contains-behind, Contains-none, head_or_behind}
+use Rattle.naptr_data.proofs.CutLemmas.{Contains-head, Contains-after, Contains-none, head_or_after}
 
 pub take_in : {X : Type 0} (n : ℕ) (xs : List X) (x : X) → Contains (take n xs) x → Contains xs x
 take_in n xs x c = subst (λ l. Contains l x) (take-append-drop n xs) (Contains-append_left (take n xs) (drop n xs) x c)
@@ -40,11 +40,11 @@ least_more f xs i x least low within is all h k y c =
 pub AllByRecursion-contains : {X : Type 0} (P : X → Type 0) (xs : List X) (x : X) → AllByRecursion P xs → Contains xs x → P x
 AllByRecursion-contains P [] x all c = absurd (Contains-none x c)
 AllByRecursion-contains P (y ∷ xs) x all c =
-    elim (head_or_behind y xs x c) [ inl here ↦ subst P (sym here) all.0 | inr behind ↦ AllByRecursion-contains P xs x all.1 behind ]
+    elim (head_or_after y xs x c) [ inl here ↦ subst P (sym here) all.0 | inr after ↦ AllByRecursion-contains P xs x all.1 after ]
 
 pub AllByRecursion-made : {X : Type 0} (P : X → Type 0) (xs : List X) → ((x : X) → Contains xs x → P x) → AllByRecursion P xs
 AllByRecursion-made P [] all = tt
-AllByRecursion-made P (x ∷ xs) all = (all x (Contains-head x xs), AllByRecursion-made P xs (λ y c. all y (Contains-behind x xs y c)))
+AllByRecursion-made P (x ∷ xs) all = (all x (Contains-head x xs), AllByRecursion-made P xs (λ y c. all y (Contains-after x xs y c)))
 
 pub only_one : {X : Type 0} (x y : X) → Contains (x ∷ []) y → y ≡ x
 only_one x y (zero, l, e) = sym e

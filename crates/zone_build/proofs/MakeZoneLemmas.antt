@@ -6,7 +6,7 @@ use Rattle.std.specs.declared.cmp.Ordering.TheVariants.{Less, Equal, Greater}
 use Rattle.std.specs.Ordering.{nat_cmp, ordering_reverse}
 use Rattle.std.proofs.lemmas.List.Elements.{Contains-push_cases}
 use Rattle.naptr_data.specs.Zones.{Labels, star}
-use Rattle.naptr_data.proofs.CutLemmas.{Contains-head, Contains-behind, Contains-none, Contains-middle, head_or_behind}
+use Rattle.naptr_data.proofs.CutLemmas.{Contains-head, Contains-after, Contains-none, Contains-middle, head_or_after}
 use Rattle.naptr_data.proofs.FoldLemmas.{same_folded}
 use Rattle.naptr_data.proofs.DecideLemmas.{Either, numbers, lists, same_or_not}
 use Rattle.dns_name.specs.Name.{AreSame, folded_labels, label_wire, wire_of}
@@ -87,31 +87,31 @@ least_or_none P each [] = inr (λ one c p. Contains-none one c)
 least_or_none P each (x ∷ xs) = both (each x) (least_or_none P each xs)
   where
     bound : (low : ℕ) → low ≤ x.ttl → ((other : Record) → Contains xs other → P other → low ≤ other.ttl) → (other : Record) → Contains (x ∷ xs) other → P other → low ≤ other.ttl
-    bound low h all other c p = elim (head_or_behind x xs other c) [
+    bound low h all other c p = elim (head_or_after x xs other c) [
       | inl here ↦ let e = ap (λ (r : Record). r.ttl) here in omega (arith, h, e)
-      | inr behind ↦ all other behind p
+      | inr after ↦ all other after p
     ]
 
     lower : (one : Record) → Contains xs one → P one → P x → ((other : Record) → Contains xs other → P other → one.ttl ≤ other.ttl) → (x.ttl ≤ one.ttl) ⊎ (one.ttl ≤ x.ttl) → HasLeast P (x ∷ xs)
     lower one c q p low (inl h) =
         (x, Contains-head x xs, p, bound x.ttl (omega arith) (λ other d r. let l = low other d r in omega (arith, h, l)))
-    lower one c q p low (inr h) = (one, Contains-behind x xs one c, q, bound one.ttl h low)
+    lower one c q p low (inr h) = (one, Contains-after x xs one c, q, bound one.ttl h low)
 
     both : Either (P x) → HasLeast P xs ⊎ HasNone P xs → HasLeast P (x ∷ xs) ⊎ HasNone P (x ∷ xs)
     both (inl p) (inl (one, c, q, low)) = inl (lower one c q p low (less_or_not x.ttl one.ttl))
     both (inl p) (inr none) = inl (x, Contains-head x xs, p, bound x.ttl (omega arith) (λ other d r. absurd (none other d r)))
     both (inr not) (inl (one, c, q, low)) = inl (
       one,
-      Contains-behind x xs one c,
+      Contains-after x xs one c,
       q,
-      λ other d r. elim (head_or_behind x xs other d) [
+      λ other d r. elim (head_or_after x xs other d) [
         | inl here ↦ absurd (not (subst P here r))
-        | inr behind ↦ low other behind r
+        | inr after ↦ low other after r
       ],
     )
-    both (inr not) (inr none) = inr (λ other d r. elim (head_or_behind x xs other d) [
+    both (inr not) (inr none) = inr (λ other d r. elim (head_or_after x xs other d) [
       | inl here ↦ not (subst P here r)
-      | inr behind ↦ none other behind r
+      | inr after ↦ none other after r
     ])
 
 in_set_or_not : (one other : Record) → Either (AreOneSet one other)
@@ -161,10 +161,10 @@ put [] k r apart = (
     new = Contains-head k [];
   },
 )
-put (y ∷ ys) k r apart = at_place (three (order_of k y)) (put ys k r.1 (λ e c. apart e (Contains-behind y ys e c)))
+put (y ∷ ys) k r apart = at_place (three (order_of k y)) (put ys k r.1 (λ e c. apart e (Contains-after y ys e c)))
   where
-    behind : order_of y k ≡ Less → (zs : List Record) → IsPut ys k zs → IsPut (y ∷ ys) k (y ∷ zs)
-    behind less zs p = record {
+    after : order_of y k ≡ Less → (zs : List Record) → IsPut ys k zs → IsPut (y ∷ ys) k (y ∷ zs)
+    after less zs p = record {
       rising = (
         AllByRecursion-made (λ (next : Record). order_of y next ≡ Less) zs (λ e c. elim (p.from e c) [
           | inl o ↦ AllByRecursion-contains (λ (next : Record). order_of y next ≡ Less) ys e r.0 o
@@ -172,15 +172,15 @@ put (y ∷ ys) k r apart = at_place (three (order_of k y)) (put ys k r.1 (λ e c
         ]),
         p.rising,
       );
-      from = λ e c. elim (head_or_behind y zs e c) [
+      from = λ e c. elim (head_or_after y zs e c) [
         | inl here ↦ inl (subst (λ (x : Record). Contains (y ∷ ys) x) (sym here) (Contains-head y ys))
-        | inr c' ↦ elim (p.from e c') [ inl o ↦ inl (Contains-behind y ys e o) | inr n ↦ inr n ]
+        | inr c' ↦ elim (p.from e c') [ inl o ↦ inl (Contains-after y ys e o) | inr n ↦ inr n ]
       ];
-      old = λ e c. elim (head_or_behind y ys e c) [
+      old = λ e c. elim (head_or_after y ys e c) [
         | inl here ↦ subst (λ (x : Record). Contains (y ∷ zs) x) (sym here) (Contains-head y zs)
-        | inr c' ↦ Contains-behind y zs e (p.old e c')
+        | inr c' ↦ Contains-after y zs e (p.old e c')
       ];
-      new = Contains-behind y zs k p.new;
+      new = Contains-after y zs k p.new;
     }
 
     at_place : (order_of k y ≡ Less) ⊎ ((order_of k y ≡ Equal) ⊎ (order_of k y ≡ Greater)) → (zs : List Record) × IsPut ys k zs → (zs : List Record) × IsPut (y ∷ ys) k zs
@@ -188,13 +188,13 @@ put (y ∷ ys) k r apart = at_place (three (order_of k y)) (put ys k r.1 (λ e c
       k ∷ y ∷ ys,
       record {
         rising = ((less, AllByRecursion-made (λ (next : Record). order_of k next ≡ Less) ys (λ e c. order_of-total.trans k y e less (AllByRecursion-contains (λ (next : Record). order_of y next ≡ Less) ys e r.0 c))), r);
-        from = λ e c. elim (head_or_behind k (y ∷ ys) e c) [ inl here ↦ inr here | inr c' ↦ inl c' ];
-        old = λ e c. Contains-behind k (y ∷ ys) e c;
+        from = λ e c. elim (head_or_after k (y ∷ ys) e c) [ inl here ↦ inr here | inr c' ↦ inl c' ];
+        old = λ e c. Contains-after k (y ∷ ys) e c;
         new = Contains-head k (y ∷ ys);
       },
     )
     at_place (inr (inl equal)) h = absurd (apart y (Contains-head y ys) equal)
-    at_place (inr (inr after)) (zs, p) = (y ∷ zs, behind (order_of-total.antisymm y k ∙ ap ordering_reverse after) zs p)
+    at_place (inr (inr later)) (zs, p) = (y ∷ zs, after (order_of-total.antisymm y k ∙ ap ordering_reverse later) zs p)
 
 -- what is kept of all that came so far, but for the SOA
 record IsMade (given done kept : List Record) : Type 0 where
@@ -207,8 +207,8 @@ first_longer done k one x (place, f) = (
   place,
   record {
     before = f.before;
-    behind = f.behind ++ x ∷ [];
-    parts = ap (λ l. l ++ x ∷ []) f.parts ∙ append_assoc f.before (one ∷ f.behind) (x ∷ []);
+    after = f.after ++ x ∷ [];
+    parts = ap (λ l. l ++ x ∷ []) f.parts ∙ append_assoc f.before (one ∷ f.after) (x ∷ []);
     at = f.at;
     here = f.here;
     first = f.first;
@@ -245,7 +245,7 @@ made_new given done kept x c not m none =
           | inl old ↦ let f = m.from e old in (f.0, first_longer done e f.0 x f.1, f.2, f.3)
           | inr new ↦
               subst (λ (r : Record). (one : Record) × IsFirstRepeat (done ++ x ∷ []) r one × IsKept given one r × (one.kind ≢ soa)) (sym new)
-              (x, (length done, record { before = done; behind = []; parts = refl; at = refl; here = alike_sym Whole x k.0 same; first = AllByRecursion-made (λ (y : Record). ¬ AreRepeats k.0 y) done lacks }), k.1, not)
+              (x, (length done, record { before = done; after = []; parts = refl; at = refl; here = alike_sym Whole x k.0 same; first = AllByRecursion-made (λ (y : Record). ¬ AreRepeats k.0 y) done lacks }), k.1, not)
         ];
         all = λ one d other. elim (Contains-push_cases done x one d) [
           | inl old ↦ let f = m.all one old other in (f.0, i.old f.0 f.1, f.2)
@@ -268,7 +268,7 @@ made_all : (given done rest kept : List Record) → ((e : Record) → Contains r
 made_all given done [] kept among m = (kept, subst (λ l. IsMade given l kept) (sym (append-nil done)) m)
 made_all given done (x ∷ rest) kept among m =
     let n = made_more given done kept x (among x (Contains-head x rest)) m in
-    let r = made_all given (done ++ x ∷ []) rest n.0 (λ e c. among e (Contains-behind x rest e c)) n.1 in
+    let r = made_all given (done ++ x ∷ []) rest n.0 (λ e c. among e (Contains-after x rest e c)) n.1 in
     (r.0, subst (λ l. IsMade given l r.0) (append_assoc done (x ∷ []) rest) r.1)
 
 others_made : (given : List Record) → (kept : List Record) × IsMade given given kept
@@ -290,14 +290,14 @@ built_some given place start f all =
       record { apex = folded_labels start.owner; records = k.0 ∷ m.0 },
       record {
         apex = λ one d l. (all start one c d f.here l).0.0;
-        kept = λ e d. elim (head_or_behind k.0 m.0 e d) [
+        kept = λ e d. elim (head_or_after k.0 m.0 e d) [
           | inl here ↦
               subst (λ (r : Record). (one : Record) × IsFirstRepeat given r one × IsKept given one r) (sym here) (start, (place, first), k.1)
-          | inr behind ↦ let g = m.1.from e behind in (g.0, g.1, g.2)
+          | inr after ↦ let g = m.1.from e after in (g.0, g.1, g.2)
         ];
         all = λ one d. elim (is_soa one) [
           | inl l ↦ (k.0, Contains-head k.0 m.0, alike_trans Whole one start k.0 (all one start d c l f.here) same)
-          | inr not ↦ let g = m.1.all one d not in (g.0, Contains-behind k.0 m.0 g.0 g.1, g.2)
+          | inr not ↦ let g = m.1.all one d not in (g.0, Contains-after k.0 m.0 g.0 g.1, g.2)
         ];
         order = (k.1.kind ∙ f.here, AllByRecursion-made (λ (r : Record). r.kind ≢ soa) m.0 (λ r d l. let g = m.1.from r d in g.3 (sym g.2.kind ∙ l)), m.1.rising);
       },
@@ -321,44 +321,44 @@ in_or_not owner kind one = both (same_or_not one.owner owner) (numbers one.kind 
     both (inl a) (inr not) = inr (λ s. not s.1)
 
 -- rising records have a set of each owner and kind
-joined : (x : Record) (xs : List Record) (owner : Labels) (kind : ℕ) (before set behind : List Record) → IsRising (x ∷ xs) → IsIn owner kind x → xs ≡ before ++ (set ++ behind) → AllByRecursion (IsIn owner kind) set → AllByRecursion (λ one. ¬ IsIn owner kind one) before → AllByRecursion (λ one. ¬ IsIn owner kind one) behind → (set' : List Record) × IsSet (x ∷ xs) owner kind set'
-joined x xs owner kind [] set behind r here parts each b n = (
+joined : (x : Record) (xs : List Record) (owner : Labels) (kind : ℕ) (before set after : List Record) → IsRising (x ∷ xs) → IsIn owner kind x → xs ≡ before ++ (set ++ after) → AllByRecursion (IsIn owner kind) set → AllByRecursion (λ one. ¬ IsIn owner kind one) before → AllByRecursion (λ one. ¬ IsIn owner kind one) after → (set' : List Record) × IsSet (x ∷ xs) owner kind set'
+joined x xs owner kind [] set after r here parts each b n = (
   x ∷ set,
   record {
     before = [];
-    behind = behind;
+    after = after;
     parts = ap (λ l. x ∷ l) parts;
     each = (here, each);
     none_before = tt;
-    none_behind = n;
+    none_after = n;
   },
 )
-joined x xs owner kind (y ∷ before) [] behind r here parts each b n = (
+joined x xs owner kind (y ∷ before) [] after r here parts each b n = (
   x ∷ [],
   record {
     before = [];
-    behind = xs;
+    after = xs;
     parts = refl;
     each = (here, tt);
     none_before = tt;
-    none_behind = subst (AllByRecursion (λ one. ¬ IsIn owner kind one)) (sym parts) (AllByRecursion-append (λ one. ¬ IsIn owner kind one) (y ∷ before) behind b n);
+    none_after = subst (AllByRecursion (λ one. ¬ IsIn owner kind one)) (sym parts) (AllByRecursion-append (λ one. ¬ IsIn owner kind one) (y ∷ before) after b n);
   },
 )
-joined x xs owner kind (y ∷ before) (z ∷ set) behind r here parts each b n =
-    let rising : IsRising (y ∷ (before ++ ((z ∷ set) ++ behind))) = subst IsRising parts r.1 in
-    let first : Contains xs y = subst (λ l. Contains l y) (sym parts) (Contains-head y (before ++ ((z ∷ set) ++ behind))) in
+joined x xs owner kind (y ∷ before) (z ∷ set) after r here parts each b n =
+    let rising : IsRising (y ∷ (before ++ ((z ∷ set) ++ after))) = subst IsRising parts r.1 in
+    let first : Contains xs y = subst (λ l. Contains l y) (sym parts) (Contains-head y (before ++ ((z ∷ set) ++ after))) in
     let less = AllByRecursion-contains (λ (next : Record). order_of x next ≡ Less) xs y r.0 first in
-    let less' = AllByRecursion-contains (λ (next : Record). order_of y next ≡ Less) (before ++ ((z ∷ set) ++ behind)) z rising.0 (Contains-middle before z (set ++ behind)) in
+    let less' = AllByRecursion-contains (λ (next : Record). order_of y next ≡ Less) (before ++ ((z ∷ set) ++ after)) z rising.0 (Contains-middle before z (set ++ after)) in
     let same = between x y z less less' (here.0 ∙ sym each.0.0, here.1 ∙ sym each.0.1) in
     absurd (b.0 (sym same.0 ∙ here.0, sym same.1 ∙ here.1))
 
 rising_set : (records : List Record) (owner : Labels) (kind : ℕ) → IsRising records → (set : List Record) × IsSet records owner kind set
 rising_set [] owner kind r =
-    ([], record { before = []; behind = []; parts = refl; each = tt; none_before = tt; none_behind = tt })
+    ([], record { before = []; after = []; parts = refl; each = tt; none_before = tt; none_after = tt })
 rising_set (x ∷ xs) owner kind r =
     let i = rising_set xs owner kind r.1 in
     elim (in_or_not owner kind x) [
-      | inl here ↦ joined x xs owner kind i.1.before i.0 i.1.behind r here i.1.parts i.1.each i.1.none_before i.1.none_behind
+      | inl here ↦ joined x xs owner kind i.1.before i.0 i.1.after r here i.1.parts i.1.each i.1.none_before i.1.none_after
       | inr not ↦ (i.0, tail_set x xs owner kind i.0 not i.1)
     ]
 
@@ -369,11 +369,11 @@ some_set (start ∷ rest) owner kind c = elim (in_or_not owner kind start) [
     start ∷ [],
     record {
       before = [];
-      behind = rest;
+      after = rest;
       parts = refl;
       each = (here, tt);
       none_before = tt;
-      none_behind = AllByRecursion-made (λ one. ¬ IsIn owner kind one) rest (λ r d i. AllByRecursion-contains (λ (one : Record). one.kind ≢ soa) rest r c.1 d (i.1 ∙ sym here.1 ∙ c.0));
+      none_after = AllByRecursion-made (λ one. ¬ IsIn owner kind one) rest (λ r d i. AllByRecursion-contains (λ (one : Record). one.kind ≢ soa) rest r c.1 d (i.1 ∙ sym here.1 ∙ c.0));
     },
   )
   | inr not ↦ let i = rising_set rest owner kind c.2 in (i.0, tail_set start rest owner kind i.0 not i.1)

@@ -5,7 +5,7 @@ use Rattle.std.specs.declared.cmp.Ordering.TheVariants.{Less}
 use Rattle.std.proofs.Common.{◌==◌}
 use Rattle.std.proofs.lemmas.List.{drop_all, drop-drop, map-append}
 use Rattle.std.proofs.lemmas.List.Elements.{Contains-append_left, Contains-append_right, Contains-append_cases}
-use Rattle.naptr_data.proofs.CutLemmas.{Contains-head, Contains-behind, Contains-none}
+use Rattle.naptr_data.proofs.CutLemmas.{Contains-head, Contains-after, Contains-none}
 use Rattle.dns_name.proofs.NameLemmas.{AllByRecursion-append}
 use Rattle.naptr_data.proofs.FoldLemmas.{same_folded}
 use Rattle.dns_name.specs.Name.{folded_labels}
@@ -34,7 +34,7 @@ pub IsRising-append : (xs ys : List Record) → IsRising xs → IsRising ys → 
 IsRising-append [] ys r s less = s
 IsRising-append (x ∷ xs) ys r s less = (
   AllByRecursion-append (λ (next : Record). order_of x next ≡ Less) xs ys r.0 (AllByRecursion-made (λ (next : Record). order_of x next ≡ Less) ys (λ y c. less x y (Contains-head x xs) c)),
-  IsRising-append xs ys r.1 s (λ z y c d. less z y (Contains-behind x xs z c) d),
+  IsRising-append xs ys r.1 s (λ z y c d. less z y (Contains-after x xs z c) d),
 )
 
 pub merging_none : (key : Key) (P : Given → Type 0) (R : Given → Record → Type 0) (all : List Given) → IsMerging key P R all all []

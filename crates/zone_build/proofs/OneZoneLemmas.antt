@@ -6,7 +6,7 @@ use Rattle.naptr_data.specs.Zones.{Labels}
 use Rattle.std.specs.List.{AllByRecursion}
 use Rattle.std.specs.declared.cmp.Ordering.TheVariants.{Less}
 use Rattle.std.specs.Ordering.{ordering_reverse}
-use Rattle.naptr_data.proofs.CutLemmas.{IsEarlier, two_cuts, Contains-head, Contains-behind, Contains-none, Contains-middle, head_or_behind}
+use Rattle.naptr_data.proofs.CutLemmas.{IsEarlier, two_cuts, Contains-head, Contains-after, Contains-none, Contains-middle, head_or_after}
 use Rattle.dns_wire.specs.Kinds.{belongs, soa}
 use Rattle.dns_wire.specs.declared.content.Content.{Content}
 use Rattle.dns_wire.specs.declared.record.Record.{Record}
@@ -18,13 +18,13 @@ use Rattle.zone_build.proofs.OrderLemmas.{order_of-total, alike_sym, alike_trans
 use Rattle.zone_build.proofs.StartLemmas.{first_in, first_same}
 
 -- the first record of which something holds is one, at one place
-earlier_first : (P : Record → Type 0) (xs : List Record) (place place' : ℕ) (one other : Record) (a : IsFirst P xs place one) (b : IsFirst P xs place' other) → IsEarlier a.before one a.behind b.before other b.behind → ⊥
+earlier_first : (P : Record → Type 0) (xs : List Record) (place place' : ℕ) (one other : Record) (a : IsFirst P xs place one) (b : IsFirst P xs place' other) → IsEarlier a.before one a.after b.before other b.after → ⊥
 earlier_first P xs place place' one other a b e =
     AllByRecursion-contains (λ (y : Record). ¬ P y) b.before one b.first (subst (λ l. Contains l one) (sym e.front) (Contains-middle a.before one e.middle)) a.here
 
 pub one_first : (P : Record → Type 0) (xs : List Record) (place place' : ℕ) (one other : Record) → IsFirst P xs place one → IsFirst P xs place' other → (place ≡ place') × (one ≡ other)
 one_first P xs place place' one other a b =
-    elim (two_cuts a.before one a.behind b.before other b.behind (sym a.parts ∙ b.parts)) [
+    elim (two_cuts a.before one a.after b.before other b.after (sym a.parts ∙ b.parts)) [
       | inl same ↦ (sym a.at ∙ ap length same.0 ∙ b.at, same.1)
       | inr (inl e) ↦ absurd (earlier_first P xs place place' one other a b e)
       | inr (inr e) ↦ absurd (earlier_first P xs place' place other one b a e)
@@ -86,8 +86,8 @@ rising_same [] [] r s to back = refl
 rising_same [] (f ∷ other) r s to back = absurd (Contains-none f (back f (Contains-head f other)))
 rising_same (e ∷ one) [] r s to back = absurd (Contains-none e (to e (Contains-head e one)))
 rising_same (e ∷ one) (f ∷ other) r s to back =
-    let heads : e ≡ f = same_heads e f one other r.0 s.0 (head_or_behind f other e (to e (Contains-head e one))) (head_or_behind e one f (back f (Contains-head f other))) in
-    let rests : one ≡ other = rising_same one other r.1 s.1 (λ x c. behind e f one other r.0 heads x c (head_or_behind f other x (to x (Contains-behind e one x c)))) (λ x c. behind f e other one s.0 (sym heads) x c (head_or_behind e one x (back x (Contains-behind f other x c)))) in
+    let heads : e ≡ f = same_heads e f one other r.0 s.0 (head_or_after f other e (to e (Contains-head e one))) (head_or_after e one f (back f (Contains-head f other))) in
+    let rests : one ≡ other = rising_same one other r.1 s.1 (λ x c. after e f one other r.0 heads x c (head_or_after f other x (to x (Contains-after e one x c)))) (λ x c. after f e other one s.0 (sym heads) x c (head_or_after e one x (back x (Contains-after f other x c)))) in
     cc
   where
     same_heads : (e f : Record) (one other : List Record) → AllByRecursion (λ o. order_of e o ≡ Less) one → AllByRecursion (λ o. order_of f o ≡ Less) other → (e ≡ f) ⊎ Contains other e → (f ≡ e) ⊎ Contains one f → e ≡ f
@@ -96,9 +96,9 @@ rising_same (e ∷ one) (f ∷ other) r s to back =
     same_heads e f one other all all' (inr h) (inr g) =
         absurd (both_ways e f (AllByRecursion-contains (λ o. order_of e o ≡ Less) one f all g) (AllByRecursion-contains (λ o. order_of f o ≡ Less) other e all' h))
 
-    behind : (e f : Record) (one other : List Record) → AllByRecursion (λ o. order_of e o ≡ Less) one → e ≡ f → (x : Record) → Contains one x → (x ≡ f) ⊎ Contains other x → Contains other x
-    behind e f one other all h x c (inr d) = d
-    behind e f one other all h x c (inl d) =
+    after : (e f : Record) (one other : List Record) → AllByRecursion (λ o. order_of e o ≡ Less) one → e ≡ f → (x : Record) → Contains one x → (x ≡ f) ⊎ Contains other x → Contains other x
+    after e f one other all h x c (inr d) = d
+    after e f one other all h x c (inl d) =
         let self : order_of x x ≡ Less = subst (λ (y : Record). order_of y x ≡ Less) (h ∙ sym d) (AllByRecursion-contains (λ o. order_of e o ≡ Less) one x all c) in
         absurd (both_ways x x self self)
 
@@ -113,16 +113,16 @@ one_soa [] one other c a b k l = absurd c
 one_soa (start ∷ rest) one other c a b k l = at_head one a k ∙ sym (at_head other b l)
   where
     at_head : (r : Record) → Contains (start ∷ rest) r → r.kind ≡ soa → r ≡ start
-    at_head r d h = elim (head_or_behind start rest r d) [
+    at_head r d h = elim (head_or_after start rest r d) [
       | inl here ↦ here
-      | inr behind ↦ absurd (AllByRecursion-contains (λ (y : Record). y.kind ≢ soa) rest r c.1 behind h)
+      | inr after ↦ absurd (AllByRecursion-contains (λ (y : Record). y.kind ≢ soa) rest r c.1 after h)
     ]
 
--- what stands behind the SOA of one list and in another stands behind the SOA of that
+-- what stands after the SOA of one list and in another stands after the SOA of that
 others_in : (a b : Record) (xs ys : List Record) → IsCanonical (a ∷ xs) → IsCanonical (b ∷ ys) → ((e : Record) → Contains (a ∷ xs) e → Contains (b ∷ ys) e) → (e : Record) → Contains xs e → Contains ys e
-others_in a b xs ys c d to e k = elim (head_or_behind b ys e (to e (Contains-behind a xs e k))) [
+others_in a b xs ys c d to e k = elim (head_or_after b ys e (to e (Contains-after a xs e k))) [
   | inl here ↦ absurd (AllByRecursion-contains (λ (y : Record). y.kind ≢ soa) xs e c.1 k (ap (λ (r : Record). r.kind) here ∙ d.0))
-  | inr behind ↦ behind
+  | inr after ↦ after
 ]
 
 -- canonical lists of the same records are equal

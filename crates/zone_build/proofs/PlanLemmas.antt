@@ -3,7 +3,7 @@ use Rattle.std.proofs.Common.{◌≡◌, ◌≢◌, inl, inr, ℕ, zero, suc, �
 use Rattle.std.specs.Prelude.{Contains}
 use Rattle.std.proofs.lemmas.List.{get_or_default, get_or-map, map-append, same_lists, length-map}
 use Rattle.std.proofs.lemmas.List.Elements.{Contains-append_cases}
-use Rattle.naptr_data.proofs.CutLemmas.{Contains-head, Contains-behind}
+use Rattle.naptr_data.proofs.CutLemmas.{Contains-head, Contains-after}
 use Rattle.naptr_data.specs.Zones.{Labels}
 use Rattle.std.specs.declared.cmp.Ordering.TheVariants.{Less}
 use Rattle.dns_wire.specs.Kinds.{soa}
@@ -22,7 +22,7 @@ some_at : {X : Type 0} (xs : List X) (k : ℕ) → k < length xs → (x : X) × 
 some_at [] k h = absurd (omega arith)
 some_at (x ∷ xs) zero h = (x, Contains-head x xs, λ d. refl)
 some_at (x ∷ xs) (suc k) h =
-    let r = some_at xs k (omega arith) in (r.0, Contains-behind x xs r.0 r.1, r.2)
+    let r = some_at xs k (omega arith) in (r.0, Contains-after x xs r.0 r.1, r.2)
 
 -- what is chosen at a place, what it is kept by, and the record that is kept
 record IsChosenAt (given : List Record) (chosen : List Chosen) (k : ℕ) (one : Chosen) : Type 0 where
@@ -111,7 +111,7 @@ choice_of given apex keeps cut p = from p.kept
       first ++ others,
       record {
         keeps_are = is ∙ sym (map-append keep_of first others);
-        among = λ one c. elim (Contains-append_cases first others one c) [ inl here ↦ among one here | inr behind ↦ among' one behind ];
+        among = λ one c. elim (Contains-append_cases first others one c) [ inl here ↦ among one here | inr after ↦ among' one after ];
         built = subst (λ l. IsBuilt given (record { apex = apex; records = l })) (sym (map-append copy_of first others)) (built_of given p.entries apex (map copy_of first) (map copy_of others) p.givens p.unmixed.inside.some p.unmixed.inside.one p.apex_is a b);
       },
     )

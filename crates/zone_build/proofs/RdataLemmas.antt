@@ -10,9 +10,9 @@ use Rattle.std.proofs.lemmas.Bool.{and_parts, eqb-true}
 use Rattle.std.proofs.Math.Nat.{mod-lt}
 use Rattle.std.proofs.lemmas.Cmp.{ranked}
 use Rattle.std.proofs.lemmas.Nat.{from_be_bytes-to_be_bytes_2}
-use Rattle.naptr_data.specs.Rank.{rank_of}
-use Rattle.naptr_data.specs.Rdata.{IsRule, rdata}
-use Rattle.naptr_data.specs.declared.rule.Naptr.{Naptr}
+use Rattle.naptr_rule.specs.Rank.{rank_of}
+use Rattle.naptr_rule.specs.Rdata.{IsRule, rdata}
+use Rattle.naptr_rule.specs.declared.rule.Naptr.{Naptr}
 use Rattle.dns_wire.specs.Kinds.{belongs, kind_of, is_whole, internet, a, ns, cname, soa, ptr, mx, txt, aaaa, srv, naptr}
 use Rattle.dns_wire.specs.Rdata.{rdata_of}
 use Rattle.dns_wire.specs.declared.content.Content.{Content}
@@ -123,7 +123,7 @@ by_order : (one other : Naptr) → IsRule one → IsRule other → (o : Ordering
 by_order one other h k o is not =
     fronts_apart 2 (rdata one) (rdata other) o (fewer one) (fewer other) (is ∙ ap (λ n. nat_cmp n other.order) (sym (front_order one h)) ∙ ap (nat_cmp (front_of 2 (rdata one))) (sym (front_order other k))) not
 
--- behind equal ORDER the two numbers are in the order of PREFERENCE
+-- after equal ORDER the two numbers are in the order of PREFERENCE
 both_numbers : (one other : Naptr) → IsRule one → IsRule other → one.order ≡ other.order → (p : Ordering) → p ≡ nat_cmp one.preference other.preference → p ≡ nat_cmp (front_of 4 (rdata one)) (front_of 4 (rdata other))
 both_numbers one other h k same Less is =
     let less = ranked one.preference other.preference Less is in

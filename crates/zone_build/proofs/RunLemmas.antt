@@ -6,7 +6,7 @@ use Rattle.std.specs.declared.cmp.Ordering.{Ordering}
 use Rattle.std.specs.declared.cmp.Ordering.TheVariants.{Less, Equal, Greater}
 use Rattle.std.proofs.lemmas.List.{drop_all}
 use Rattle.std.proofs.lemmas.Cmp.{tied_itself}
-use Rattle.naptr_data.proofs.CutLemmas.{Contains-head, Contains-none, head_or_behind}
+use Rattle.naptr_data.proofs.CutLemmas.{Contains-head, Contains-none, head_or_after}
 use Rattle.zone_build.specs.Zone.{AreRepeats, order_of}
 use Rattle.zone_build.specs.Building.{Given, key_order, AreAlike, IsOrdered, IsStable, IsRun}
 use Rattle.zone_build.specs.declared.key.Key.{Key}
@@ -47,11 +47,11 @@ stable_take (suc n) (x ∷ all) o =
 -- the first of stable entries is before its repeats among them
 pub stable_head : (part : List Given) (head other : Given) → IsStable part → head ≡ get_or part 0 head → Contains part other → AreRepeats head.given other.given → head.place ≤ other.place
 stable_head [] head other o is c same = absurd (Contains-none other c)
-stable_head (x ∷ part) head other o is c same = elim (head_or_behind x part other c) [
+stable_head (x ∷ part) head other o is c same = elim (head_or_after x part other c) [
   | inl here ↦ let e = ap (λ (g : Given). g.place) (is ∙ sym here) in omega (arith, e)
-  | inr behind ↦
+  | inr after ↦
       let e = ap (λ (g : Given). g.place) is in
-      let l = AllByRecursion-contains (λ (next : Given). AreRepeats x.given next.given → x.place ≤ next.place) part other o.0 behind (subst (λ (g : Given). AreRepeats g.given other.given) is same) in
+      let l = AllByRecursion-contains (λ (next : Given). AreRepeats x.given next.given → x.place ≤ next.place) part other o.0 after (subst (λ (g : Given). AreRepeats g.given other.given) is same) in
       omega (arith, e, l)
 ]
 
@@ -60,20 +60,20 @@ pub ordered_pair : (n : ℕ) (all : List Given) (one other : Given) → IsOrdere
 ordered_pair zero all one other o c d = absurd (Contains-none one c)
 ordered_pair (suc n) [] one other o c d = absurd (Contains-none one c)
 ordered_pair (suc n) (x ∷ all) one other o c d =
-    elim (head_or_behind x (take n all) one c) [
+    elim (head_or_after x (take n all) one c) [
       | inl here ↦
           subst (λ (g : Given). order_of g.given other.given ≢ Greater) (sym here) (AllByRecursion-contains (λ (next : Given). order_of x.given next.given ≢ Greater) all other o.0 (drop_in n all other d))
-      | inr behind ↦ ordered_pair n all one other o.1 behind d
+      | inr after ↦ ordered_pair n all one other o.1 after d
     ]
 
 -- from a place on stand its element, and others that do not come before it
 from_place : (at : ℕ) (all : List Given) (next other : Given) → IsOrdered all → at < length all → next ≡ get_or all at next → Contains (drop at all) other → (other ≡ next) ⊎ (order_of next.given other.given ≢ Greater)
 from_place zero [] next other o within is c = absurd (Contains-none other c)
 from_place zero (x ∷ all) next other o within is c =
-    elim (head_or_behind x all other c) [
+    elim (head_or_after x all other c) [
       | inl here ↦ inl (here ∙ sym is)
-      | inr behind ↦
-          inr (subst (λ (g : Given). order_of g.given other.given ≢ Greater) (sym is) (AllByRecursion-contains (λ (y : Given). order_of x.given y.given ≢ Greater) all other o.0 behind))
+      | inr after ↦
+          inr (subst (λ (g : Given). order_of g.given other.given ≢ Greater) (sym is) (AllByRecursion-contains (λ (y : Given). order_of x.given y.given ≢ Greater) all other o.0 after))
     ]
 from_place (suc n) [] next other o within is c = absurd (Contains-none other c)
 from_place (suc n) (x ∷ all) next other o within is c = from_place n all next other o.1 (omega arith) is c
@@ -109,11 +109,11 @@ run_ends key all head next at o ordered h is within alike order not =
       within = omega arith;
       here = λ one other c d. alike_trans key one.given head.given other.given (alike_sym key head.given one.given (alike one c)) (alike other d);
       later = λ one other c d.
-          equal_less (key_order key) (key_order-total key) one.given head.given other.given (alike_equal key one.given head.given (alike_sym key head.given one.given (alike one c))) (behind first other d);
+          equal_less (key_order key) (key_order-total key) one.given head.given other.given (alike_equal key one.given head.given (alike_sym key head.given one.given (alike one c))) (after first other d);
     }
   where
-    behind : key_order key head.given next.given ≡ Less → (other : Given) → Contains (drop at all) other → key_order key head.given other.given ≡ Less
-    behind first other d = elim (from_place at all next other ordered within is d) [
+    after : key_order key head.given next.given ≡ Less → (other : Given) → Contains (drop at all) other → key_order key head.given other.given ≡ Less
+    after first other d = elim (from_place at all next other ordered within is d) [
       | inl same ↦ subst (λ (g : Given). key_order key head.given g.given ≡ Less) (sym same) first
       | inr after ↦
           less_not_after (key_order key) (key_order-total key) head.given next.given other.given first (key_not_after key next.given other.given after)

@@ -7,7 +7,7 @@ use Rattle.std.proofs.Math.Seq.{take-add}
 use Rattle.std.proofs.lemmas.List.Sums.{sum_by-append}
 use Rattle.std.proofs.lemmas.List.{take_more, take-append-drop, drop-drop, map-append, length-map}
 use Rattle.std.proofs.lemmas.List.Elements.{Contains-append_left, Contains-append_right, Contains-append_cases}
-use Rattle.naptr_data.proofs.CutLemmas.{Contains-head, Contains-behind, Contains-none, head_or_behind}
+use Rattle.naptr_data.proofs.CutLemmas.{Contains-head, Contains-after, Contains-none, head_or_after}
 use Rattle.naptr_data.specs.Zones.{Labels}
 use Rattle.dns_wire.specs.Rdata.{rdata_of}
 use Rattle.dns_wire.specs.declared.record.Record.{Record}
@@ -22,67 +22,67 @@ in_none : (owner : Labels) (kind : ℕ) (xs : List Record) (x : Record) → AllB
 in_none owner kind xs x none c i = AllByRecursion-contains (λ one. ¬ IsIn owner kind one) xs x none c i
 
 -- fronts of which all are in, before parts of which none are, are one
-same_fronts : (owner : Labels) (kind : ℕ) (one other behind behind' : List Record) → AllByRecursion (IsIn owner kind) one → AllByRecursion (IsIn owner kind) other → AllByRecursion (λ r. ¬ IsIn owner kind r) behind → AllByRecursion (λ r. ¬ IsIn owner kind r) behind' → one ++ behind ≡ other ++ behind' → one ≡ other
-same_fronts owner kind [] [] behind behind' a b n m e = refl
-same_fronts owner kind [] (y ∷ other) behind behind' a b n m e =
-    absurd (in_none owner kind behind y n (subst (λ l. Contains l y) (sym e) (Contains-head y (other ++ behind'))) b.0)
-same_fronts owner kind (x ∷ one) [] behind behind' a b n m e =
-    absurd (in_none owner kind behind' x m (subst (λ l. Contains l x) e (Contains-head x (one ++ behind))) a.0)
-same_fronts owner kind (x ∷ one) (y ∷ other) behind behind' a b n m e =
+same_fronts : (owner : Labels) (kind : ℕ) (one other after after' : List Record) → AllByRecursion (IsIn owner kind) one → AllByRecursion (IsIn owner kind) other → AllByRecursion (λ r. ¬ IsIn owner kind r) after → AllByRecursion (λ r. ¬ IsIn owner kind r) after' → one ++ after ≡ other ++ after' → one ≡ other
+same_fronts owner kind [] [] after after' a b n m e = refl
+same_fronts owner kind [] (y ∷ other) after after' a b n m e =
+    absurd (in_none owner kind after y n (subst (λ l. Contains l y) (sym e) (Contains-head y (other ++ after'))) b.0)
+same_fronts owner kind (x ∷ one) [] after after' a b n m e =
+    absurd (in_none owner kind after' x m (subst (λ l. Contains l x) e (Contains-head x (one ++ after))) a.0)
+same_fronts owner kind (x ∷ one) (y ∷ other) after after' a b n m e =
     let heads : x ≡ y = cc in
-    let rests : one ++ behind ≡ other ++ behind' = cc in
-    ap (λ z. z ∷ one) heads ∙ ap (λ l. y ∷ l) (same_fronts owner kind one other behind behind' a.1 b.1 n m rests)
+    let rests : one ++ after ≡ other ++ after' = cc in
+    ap (λ z. z ∷ one) heads ∙ ap (λ l. y ∷ l) (same_fronts owner kind one other after after' a.1 b.1 n m rests)
 
-same_sets : (owner : Labels) (kind : ℕ) (before before' one other behind behind' : List Record) → AllByRecursion (λ r. ¬ IsIn owner kind r) before → AllByRecursion (λ r. ¬ IsIn owner kind r) before' → AllByRecursion (IsIn owner kind) one → AllByRecursion (IsIn owner kind) other → AllByRecursion (λ r. ¬ IsIn owner kind r) behind → AllByRecursion (λ r. ¬ IsIn owner kind r) behind' → before ++ (one ++ behind) ≡ before' ++ (other ++ behind') → one ≡ other
-same_sets owner kind [] [] one other behind behind' f g a b n m e = same_fronts owner kind one other behind behind' a b n m e
-same_sets owner kind (x ∷ before) (y ∷ before') one other behind behind' f g a b n m e =
-    same_sets owner kind before before' one other behind behind' f.1 g.1 a b n m (cc)
-same_sets owner kind [] (y ∷ before') [] other behind behind' f g a b n m e =
-    none_here other (λ z c. in_none owner kind behind z n (subst (λ l. Contains l z) (sym e) (Contains-append_right (y ∷ before') (other ++ behind') z (Contains-append_left other behind' z c)))) b
+same_sets : (owner : Labels) (kind : ℕ) (before before' one other after after' : List Record) → AllByRecursion (λ r. ¬ IsIn owner kind r) before → AllByRecursion (λ r. ¬ IsIn owner kind r) before' → AllByRecursion (IsIn owner kind) one → AllByRecursion (IsIn owner kind) other → AllByRecursion (λ r. ¬ IsIn owner kind r) after → AllByRecursion (λ r. ¬ IsIn owner kind r) after' → before ++ (one ++ after) ≡ before' ++ (other ++ after') → one ≡ other
+same_sets owner kind [] [] one other after after' f g a b n m e = same_fronts owner kind one other after after' a b n m e
+same_sets owner kind (x ∷ before) (y ∷ before') one other after after' f g a b n m e =
+    same_sets owner kind before before' one other after after' f.1 g.1 a b n m (cc)
+same_sets owner kind [] (y ∷ before') [] other after after' f g a b n m e =
+    none_here other (λ z c. in_none owner kind after z n (subst (λ l. Contains l z) (sym e) (Contains-append_right (y ∷ before') (other ++ after') z (Contains-append_left other after' z c)))) b
   where
     none_here : (zs : List Record) → ((z : Record) → Contains zs z → ¬ IsIn owner kind z) → AllByRecursion (IsIn owner kind) zs → [] ≡ zs
     none_here [] lacks all = refl
     none_here (z ∷ zs) lacks all = absurd (lacks z (Contains-head z zs) all.0)
-same_sets owner kind [] (y ∷ before') (x ∷ one) other behind behind' f g a b n m e =
+same_sets owner kind [] (y ∷ before') (x ∷ one) other after after' f g a b n m e =
     let heads : x ≡ y = cc in absurd (g.0 (subst (IsIn owner kind) heads a.0))
-same_sets owner kind (x ∷ before) [] one [] behind behind' f g a b n m e =
-    none_here one (λ z c. in_none owner kind behind' z m (subst (λ l. Contains l z) e (Contains-append_right (x ∷ before) (one ++ behind) z (Contains-append_left one behind z c)))) a
+same_sets owner kind (x ∷ before) [] one [] after after' f g a b n m e =
+    none_here one (λ z c. in_none owner kind after' z m (subst (λ l. Contains l z) e (Contains-append_right (x ∷ before) (one ++ after) z (Contains-append_left one after z c)))) a
   where
     none_here : (zs : List Record) → ((z : Record) → Contains zs z → ¬ IsIn owner kind z) → AllByRecursion (IsIn owner kind) zs → zs ≡ []
     none_here [] lacks all = refl
     none_here (z ∷ zs) lacks all = absurd (lacks z (Contains-head z zs) all.0)
-same_sets owner kind (x ∷ before) [] one (y ∷ other) behind behind' f g a b n m e =
+same_sets owner kind (x ∷ before) [] one (y ∷ other) after after' f g a b n m e =
     let heads : x ≡ y = cc in absurd (f.0 (subst (IsIn owner kind) (sym heads) b.0))
 
 -- records have one set of an owner and kind
 pub one_set : (records : List Record) (owner : Labels) (kind : ℕ) (one other : List Record) → IsSet records owner kind one → IsSet records owner kind other → one ≡ other
 one_set records owner kind one other a b =
-    same_sets owner kind a.before b.before one other a.behind b.behind a.none_before b.none_before a.each b.each a.none_behind b.none_behind (sym a.parts ∙ b.parts)
+    same_sets owner kind a.before b.before one other a.after b.after a.none_before b.none_before a.each b.each a.none_after b.none_after (sym a.parts ∙ b.parts)
 
 -- the set of a name and kind is that of each of its records
 pub set_same_name : (records : List Record) (owner : Labels) (kind : ℕ) (other : Record) (set : List Record) → IsIn owner kind other → IsSet records owner kind set → IsSet records other.owner other.kind set
 set_same_name records owner kind other set same s = record {
   before = s.before;
-  behind = s.behind;
+  after = s.after;
   parts = s.parts;
   each = AllByRecursion-made (IsIn other.owner other.kind) set (λ r c. let i = AllByRecursion-contains (IsIn owner kind) set r s.each c in (i.0 ∙ sym same.0, i.1 ∙ sym same.1));
   none_before = AllByRecursion-made (λ r. ¬ IsIn other.owner other.kind r) s.before (λ r c i. in_none owner kind s.before r s.none_before c (i.0 ∙ same.0, i.1 ∙ same.1));
-  none_behind = AllByRecursion-made (λ r. ¬ IsIn other.owner other.kind r) s.behind (λ r c i. in_none owner kind s.behind r s.none_behind c (i.0 ∙ same.0, i.1 ∙ same.1));
+  none_after = AllByRecursion-made (λ r. ¬ IsIn other.owner other.kind r) s.after (λ r c i. in_none owner kind s.after r s.none_after c (i.0 ∙ same.0, i.1 ∙ same.1));
 }
 
 -- a record of entries
 pub record_in : (entries : List Given) (r : Record) → Contains (records_of entries) r → (e : Given) × Contains entries e × (r ≡ e.given)
 record_in [] r c = absurd (Contains-none r c)
-record_in (e ∷ entries) r c = elim (head_or_behind e.given (records_of entries) r c) [
+record_in (e ∷ entries) r c = elim (head_or_after e.given (records_of entries) r c) [
   | inl here ↦ (e, Contains-head e entries, here)
-  | inr behind ↦ let f = record_in entries r behind in (f.0, Contains-behind e entries f.0 f.1, f.2)
+  | inr after ↦ let f = record_in entries r after in (f.0, Contains-after e entries f.0 f.1, f.2)
 ]
 
 pub in_records : (entries : List Given) (e : Given) → Contains entries e → Contains (records_of entries) e.given
 in_records [] e c = absurd (Contains-none e c)
-in_records (x ∷ entries) e c = elim (head_or_behind x entries e c) [
+in_records (x ∷ entries) e c = elim (head_or_after x entries e c) [
   | inl here ↦ subst (λ (g : Given). Contains (x.given ∷ records_of entries) g.given) (sym here) (Contains-head x.given (records_of entries))
-  | inr behind ↦ Contains-behind x.given (records_of entries) e.given (in_records entries e behind)
+  | inr after ↦ Contains-after x.given (records_of entries) e.given (in_records entries e after)
 ]
 
 -- the weight of one more record
@@ -118,7 +118,7 @@ apart_more all at n apart run d e c k =
 pub run_set : (all part : List Given) (at n : ℕ) (e : Given) → IsApart all at → IsRun Set (drop at all) n → part ≡ take n (drop at all) → Contains part e → IsSet (records_of all) e.given.owner e.given.kind (records_of part)
 run_set all part at n e apart run cut c = record {
   before = records_of (take at all);
-  behind = records_of (drop n (drop at all));
+  after = records_of (drop n (drop at all));
   parts = ap records_of (sym (take-append-drop at all)) ∙ map-append (λ (g : Given). g.given) (take at all) (drop at all) ∙ ap (λ l. records_of (take at all) ++ l) (ap records_of (sym (take-append-drop n (drop at all))) ∙ map-append (λ (g : Given). g.given) (take n (drop at all)) (drop n (drop at all)) ∙ ap (λ l. records_of l ++ records_of (drop n (drop at all))) (sym cut));
   each = AllByRecursion-made (IsIn e.given.owner e.given.kind) (records_of part) (λ r k.
       let f = record_in part r k in
@@ -126,7 +126,7 @@ run_set all part at n e apart run cut c = record {
   none_before = AllByRecursion-made (λ r. ¬ IsIn e.given.owner e.given.kind r) (records_of (take at all)) (λ r k i.
       let f = record_in (take at all) r k in
       later_apart Set f.0.given e.given (apart f.0 e f.1 (take_in n (drop at all) e (subst (λ l. Contains l e) cut c))) (subst (IsIn e.given.owner e.given.kind) f.2 i));
-  none_behind = AllByRecursion-made (λ r. ¬ IsIn e.given.owner e.given.kind r) (records_of (drop n (drop at all))) (λ r k i.
+  none_after = AllByRecursion-made (λ r. ¬ IsIn e.given.owner e.given.kind r) (records_of (drop n (drop at all))) (λ r k i.
       let f = record_in (drop n (drop at all)) r k in
       later_apart Set e.given f.0.given (run.later e f.0 (subst (λ l. Contains l e) cut c) f.1) (alike_sym Set f.0.given e.given (subst (IsIn e.given.owner e.given.kind) f.2 i)));
 }
@@ -146,7 +146,7 @@ none_large_more all part at n apart run cut not none e c large = elim (take_agai
 pub large_met : (all part : List Given) (at n : ℕ) (e : Given) → IsApart all at → IsRun Set (drop at all) n → part ≡ take n (drop at all) → 60_000 < weight (records_of part) → NoneLarge all at → at < length all → e ≡ get_or all at e → Contains part e → IsFirst (IsLarge (records_of all)) (records_of all) at e.given
 large_met all part at n e apart run cut large none within is c = record {
   before = records_of (take at all);
-  behind = records_of (drop (at + 1) all);
+  after = records_of (drop (at + 1) all);
   parts = cut_of (λ (g : Given). g.given) all at e within is;
   at = length-map (take at all) (λ (g : Given). g.given) ∙ omega (arith, length-take at all);
   here = (records_of part, run_set all part at n e apart run cut c, large);

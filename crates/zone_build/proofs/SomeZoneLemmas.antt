@@ -2,7 +2,7 @@
 use Rattle.std.proofs.Common.{◌≡◌, ◌⊎◌, inl, inr, ℕ, suc, List, [], ◌∷◌, refl, sym, ap, subst}
 use Rattle.std.specs.Prelude.{Contains}
 use Rattle.naptr_data.specs.Zones.{Labels}
-use Rattle.naptr_data.proofs.CutLemmas.{Contains-none, head_or_behind}
+use Rattle.naptr_data.proofs.CutLemmas.{Contains-none, head_or_after}
 use Rattle.naptr_data.proofs.BelowLemmas.{below_same_top}
 use Rattle.naptr_data.proofs.DecideLemmas.{Either, numbers, same_or_not, below_or_not}
 use Rattle.dns_name.specs.Name.{AreSame, IsBelow}
@@ -29,19 +29,19 @@ first_or_none P each [] = inr (λ one c p. Contains-none one c)
 first_or_none P each (x ∷ xs) = both (each x) (first_or_none P each xs)
   where
     neither : (P x → ⊥) → HasNone P xs → HasNone P (x ∷ xs)
-    neither not none one c p = elim (head_or_behind x xs one c) [
+    neither not none one c p = elim (head_or_after x xs one c) [
       | inl here ↦ not (subst P here p)
-      | inr behind ↦ none one behind p
+      | inr after ↦ none one after p
     ]
 
     both : Either (P x) → HasFirst P xs ⊎ HasNone P xs → HasFirst P (x ∷ xs) ⊎ HasNone P (x ∷ xs)
-    both (inl p) h = inl (0, x, record { before = []; behind = xs; parts = refl; at = refl; here = p; first = tt })
+    both (inl p) h = inl (0, x, record { before = []; after = xs; parts = refl; at = refl; here = p; first = tt })
     both (inr not) (inl (place, one, f)) = inl (
       suc place,
       one,
       record {
         before = x ∷ f.before;
-        behind = f.behind;
+        after = f.after;
         parts = ap (λ l. x ∷ l) f.parts;
         at = ap suc f.at;
         here = f.here;

@@ -8,7 +8,7 @@ use Rattle.std.specs.Ordering.{ordering_then, ordering_reverse, nat_cmp}
 use Rattle.std.proofs.lemmas.Cmp.{ranked}
 use Rattle.std.proofs.lemmas.List.Sorted.{ranks_by, sorted_far, Contains-permutation, IsPermutation-sym}
 use Rattle.std.proofs.lemmas.List.{take_more}
-use Rattle.naptr_data.proofs.CutLemmas.{Contains-head, Contains-behind, Contains-none, head_or_behind}
+use Rattle.naptr_data.proofs.CutLemmas.{Contains-head, Contains-after, Contains-none, head_or_after}
 use Rattle.dns_wire.specs.declared.record.Record.{Record}
 use Rattle.zone_build.specs.Zone.{AreRepeats, order_of}
 use Rattle.zone_build.specs.Building.{Given, IsOrdered, IsStable, entry_order, AreGivens, givens_from}
@@ -29,14 +29,14 @@ sorted_is_far : (xs : List Given) → IsSortedBy (λ (a b : Given). is_lt (entry
 sorted_is_far xs sorted i j d h k =
     not_less_back (get_or xs i d) (get_or xs j d) (sorted_far (λ (a b : Given). is_lt (entry_order a b)) (ranks_by entry_order-total (λ (g : Given). g)) xs sorted i j d h k)
 
--- what comes behind the head of sorted entries
-behind_head : (x : Given) (xs : List Given) → IsFar (x ∷ xs) → (y : Given) → Contains xs y → entry_order x y ≢ Greater
-behind_head x xs far y (k, l, e) = subst (λ (g : Given). entry_order x g ≢ Greater) e (far 0 (suc k) y (omega arith) (omega arith))
+-- what comes after the head of sorted entries
+after_head : (x : Given) (xs : List Given) → IsFar (x ∷ xs) → (y : Given) → Contains xs y → entry_order x y ≢ Greater
+after_head x xs far y (k, l, e) = subst (λ (g : Given). entry_order x g ≢ Greater) e (far 0 (suc k) y (omega arith) (omega arith))
 
 ordered_far : (xs : List Given) → IsFar xs → IsOrdered xs
 ordered_far [] far = tt
 ordered_far (x ∷ xs) far = (
-  AllByRecursion-made (λ (next : Given). order_of x.given next.given ≢ Greater) xs (λ y c. then_front (order_of x.given y.given) (nat_cmp x.place y.place) (behind_head x xs far y c)),
+  AllByRecursion-made (λ (next : Given). order_of x.given next.given ≢ Greater) xs (λ y c. then_front (order_of x.given y.given) (nat_cmp x.place y.place) (after_head x xs far y c)),
   ordered_far xs (λ i j d h k. far (suc i) (suc j) d (omega arith) (omega arith)),
 )
 
@@ -54,7 +54,7 @@ placed one other not same =
 stable_far : (xs : List Given) → IsFar xs → IsStable xs
 stable_far [] far = tt
 stable_far (x ∷ xs) far = (
-  AllByRecursion-made (λ (next : Given). AreRepeats x.given next.given → x.place ≤ next.place) xs (λ y c. placed x y (behind_head x xs far y c)),
+  AllByRecursion-made (λ (next : Given). AreRepeats x.given next.given → x.place ≤ next.place) xs (λ y c. placed x y (after_head x xs far y c)),
   stable_far xs (λ i j d h k. far (suc i) (suc j) d (omega arith) (omega arith)),
 )
 
@@ -89,10 +89,10 @@ length-givens_from place (x ∷ xs) = ap suc (length-givens_from (place + 1) xs)
 -- an entry stands for the record at its place
 given_at : (place : ℕ) (xs : List Record) (e : Given) → Contains (givens_from place xs) e → (k : ℕ) × (k < length xs) × (e.place ≡ place + k) × (get_or xs k e.given ≡ e.given)
 given_at place [] e c = absurd (Contains-none e c)
-given_at place (x ∷ xs) e c = elim (head_or_behind (record { place = place; given = x }) (givens_from (place + 1) xs) e c) [
+given_at place (x ∷ xs) e c = elim (head_or_after (record { place = place; given = x }) (givens_from (place + 1) xs) e c) [
   | inl here ↦ (0, omega arith, ap (λ (g : Given). g.place) here ∙ omega arith, sym (ap (λ (g : Given). g.given) here))
-  | inr behind ↦
-      let r = given_at (place + 1) xs e behind in
+  | inr after ↦
+      let r = given_at (place + 1) xs e after in
       let l = r.1 in
       let p = r.2 in
       (suc r.0, omega arith, omega arith, r.3)
@@ -105,7 +105,7 @@ at_given place (y ∷ xs) zero x h is =
     subst (λ (z : Record). Contains (givens_from place (y ∷ xs)) (record { place = place + 0; given = z })) is (subst (λ n. Contains (givens_from place (y ∷ xs)) (record { place = n; given = y })) e (Contains-head (record { place = place; given = y }) (givens_from (place + 1) xs)))
 at_given place (y ∷ xs) (suc k) x h is =
     let e : place + 1 + k ≡ place + suc k = omega arith in
-    subst (λ n. Contains (givens_from place (y ∷ xs)) (record { place = n; given = x })) e (Contains-behind (record { place = place; given = y }) (givens_from (place + 1) xs) (record { place = place + 1 + k; given = x }) (at_given (place + 1) xs k x (omega arith) is))
+    subst (λ n. Contains (givens_from place (y ∷ xs)) (record { place = n; given = x })) e (Contains-after (record { place = place; given = y }) (givens_from (place + 1) xs) (record { place = place + 1 + k; given = x }) (at_given (place + 1) xs k x (omega arith) is))
 
 -- the records as entries, in any order
 pub are_givens : (given : List Record) (entries : List Given) → IsPermutation (givens_from 0 given) entries → AreGivens given entries

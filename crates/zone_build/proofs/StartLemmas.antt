@@ -17,7 +17,7 @@ use Rattle.zone_build.proofs.ListLemmas.{turn_of, AllByRecursion-made, AllByRecu
 pub first_found : (P : Record → Type 0) (xs : List Record) (at : ℕ) (x : Record) → at < length xs → x ≡ get_or xs at x → ((y : Record) → Contains (take at xs) y → ¬ P y) → P x → IsFirst P xs at x
 first_found P xs at x within is none here = record {
   before = take at xs;
-  behind = drop (at + 1) xs;
+  after = drop (at + 1) xs;
   parts = sym (take-append-drop (at + 1) xs) ∙ ap (λ l. l ++ drop (at + 1) xs) (take_more xs at x within ∙ ap (λ y. take at xs ++ y ∷ []) (sym is)) ∙ append_assoc (take at xs) (x ∷ []) (drop (at + 1) xs);
   at = omega (arith, length-take at xs);
   here = here;
@@ -25,7 +25,7 @@ first_found P xs at x within is none here = record {
 }
 
 pub first_in : (P : Record → Type 0) (xs : List Record) (place : ℕ) (one : Record) → IsFirst P xs place one → Contains xs one
-first_in P xs place one f = subst (λ l. Contains l one) (sym f.parts) (Contains-middle f.before one f.behind)
+first_in P xs place one f = subst (λ l. Contains l one) (sym f.parts) (Contains-middle f.before one f.after)
 
 -- none so far, and not the next one
 pub none_more : (P : Record → Type 0) (xs : List Record) (at : ℕ) (x : Record) → at < length xs → x ≡ get_or xs at x → ((y : Record) → Contains (take at xs) y → ¬ P y) → ¬ P x → (y : Record) → Contains (take (at + 1) xs) y → ¬ P y
@@ -38,11 +38,11 @@ none_more P xs at x within is none not y c p = elim (turn_of xs at x y within is
 pub first_same : (P Q : Record → Type 0) (xs : List Record) (at : ℕ) (x : Record) → ((y : Record) → Contains xs y → P y → Q y) → ((y : Record) → Contains xs y → Q y → P y) → IsFirst P xs at x → IsFirst Q xs at x
 first_same P Q xs at x to back f = record {
   before = f.before;
-  behind = f.behind;
+  after = f.after;
   parts = f.parts;
   at = f.at;
-  here = to x (subst (λ l. Contains l x) (sym f.parts) (Contains-middle f.before x f.behind)) f.here;
-  first = AllByRecursion-made (λ (y : Record). ¬ Q y) f.before (λ y c q. AllByRecursion-contains (λ (z : Record). ¬ P z) f.before y f.first c (back y (subst (λ l. Contains l y) (sym f.parts) (Contains-append_left f.before (x ∷ f.behind) y c)) q));
+  here = to x (subst (λ l. Contains l x) (sym f.parts) (Contains-middle f.before x f.after)) f.here;
+  first = AllByRecursion-made (λ (y : Record). ¬ Q y) f.before (λ y c q. AllByRecursion-contains (λ (z : Record). ¬ P z) f.before y f.first c (back y (subst (λ l. Contains l y) (sym f.parts) (Contains-append_left f.before (x ∷ f.after) y c)) q));
 }
 
 both_true : (p q : Bool) → IsTrue (p && q) → IsTrue p × IsTrue q

@@ -9,8 +9,8 @@ use Rattle.zone_build.specs.Zone.{Zone, AreOneSet, AreRepeats, IsCanonical}
 -- the first of the records of which something holds
 pub record IsFirst (P : Record → Type 0) (given : List Record) (place : ℕ) (one : Record) : Type 0 where
   pub before : List Record
-  pub behind : List Record
-  pub parts : given ≡ before ++ one ∷ behind
+  pub after : List Record
+  pub parts : given ≡ before ++ one ∷ after
   pub at : length before ≡ place
   pub here : P one
   pub first : AllByRecursion (λ earlier. ¬ P earlier) before

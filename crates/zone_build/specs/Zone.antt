@@ -55,11 +55,11 @@ IsCanonical (start ∷ rest) = (start.kind ≡ soa) × AllByRecursion (λ one. o
 -- the set of that owner and kind among records: all that are there, side by side
 pub record IsSet (records : List Record) (owner : Labels) (kind : ℕ) (set : List Record) : Type 0 where
   pub before : List Record
-  pub behind : List Record
-  pub parts : records ≡ before ++ (set ++ behind)
+  pub after : List Record
+  pub parts : records ≡ before ++ (set ++ after)
   pub each : AllByRecursion (IsIn owner kind) set
   pub none_before : AllByRecursion (λ one. ¬ IsIn owner kind one) before
-  pub none_behind : AllByRecursion (λ one. ¬ IsIn owner kind one) behind
+  pub none_after : AllByRecursion (λ one. ¬ IsIn owner kind one) after
 
 -- what a set weighs: of each record the bytes of its RDATA and 265 more, which its owner and its fixed fields may take
 abbrev pub weight : List Record → ℕ

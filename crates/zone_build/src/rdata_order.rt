@@ -2,7 +2,7 @@
 ghost use Rattle.std.specs.Prelude.{◌≡◌, IfOk};
 ghost use Rattle.std.specs.Ordering.{nat_cmp};
 ghost use Rattle.std.specs.Cmp.Lexicographic.{slice_cmp};
-ghost use Rattle.naptr_data.specs.Rdata.{rdata};
+ghost use Rattle.naptr_rule.specs.Rdata.{rdata};
 ghost use Rattle.dns_wire.specs.Kinds.{kind_of, naptr};
 ghost use Rattle.dns_wire.specs.Rdata.{rdata_of};
 ghost use Rattle.zone_build.specs.Building.{compared_bytes};

@@ -1,7 +1,7 @@
 -- A zone fits into a set or has one fault by which it does not go into it.
 use Rattle.std.proofs.Common.{◌≡◌, ◌≢◌, ◌⊎◌, inl, inr, ℕ, ◌+◌, ◌<◌, ◌≤◌, List, [], ◌∷◌, length, refl, subst, arith}
 use Rattle.naptr_data.specs.Zones.{Labels}
-use Rattle.naptr_data.proofs.CutLemmas.{Contains-head, Contains-behind, Contains-none, head_or_behind}
+use Rattle.naptr_data.proofs.CutLemmas.{Contains-head, Contains-after, Contains-none, head_or_after}
 use Rattle.naptr_data.proofs.DecideLemmas.{Either, same_or_not}
 use Rattle.dns_name.specs.Name.{AreSame}
 use Rattle.zone_build.specs.Zone.{Zone}
@@ -33,10 +33,10 @@ holds_or_not (zone ∷ zones) apex = both (same_or_not zone.apex apex) (holds_or
   where
     both : Either (AreSame zone.apex apex) → Either (HoldsApex zones apex) → Either (HoldsApex (zone ∷ zones) apex)
     both (inl same) h = inl (zone, Contains-head zone zones, same)
-    both (inr not) (inl (z, c, same)) = inl (z, Contains-behind zone zones z c, same)
-    both (inr not) (inr none) = inr (λ (z, c, same). elim (head_or_behind zone zones z c) [
+    both (inr not) (inl (z, c, same)) = inl (z, Contains-after zone zones z c, same)
+    both (inr not) (inr none) = inr (λ (z, c, same). elim (head_or_after zone zones z c) [
       | inl here ↦ not (subst (λ (y : Zone). AreSame y.apex apex) here same)
-      | inr behind ↦ none (z, behind, same)
+      | inr after ↦ none (z, after, same)
     ])
 
 full_or_not : (n m : ℕ) → Either ((64 ≤ n) ⊎ (400_000 < m))

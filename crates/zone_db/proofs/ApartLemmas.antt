@@ -7,12 +7,12 @@ use Rattle.dns_wire.specs.Kinds.{naptr, soa}
 use Rattle.dns_wire.specs.Rdata.{rdata_of}
 use Rattle.dns_wire.specs.declared.content.Content.TheVariants as content
 use Rattle.dns_wire.specs.declared.record.Record.{Record}
-use Rattle.naptr_data.proofs.CutLemmas.{Contains-none, head_or_behind}
-use Rattle.naptr_data.specs.Rank.{rank_of}
-use Rattle.naptr_data.specs.Rdata.{rdata}
-use Rattle.naptr_data.specs.Zones.{Labels, StandsAt, rule}
+use Rattle.naptr_data.proofs.CutLemmas.{Contains-none, head_or_after}
+use Rattle.naptr_rule.specs.Rank.{rank_of}
+use Rattle.naptr_rule.specs.Rdata.{rdata}
+use Rattle.naptr_data.specs.Zones.{Labels, HasItem, rule}
 use Rattle.naptr_data.specs.Zones as plain
-use Rattle.naptr_data.specs.declared.rule.Naptr.{Naptr}
+use Rattle.naptr_rule.specs.declared.rule.Naptr.{Naptr}
 use Rattle.zone_db.specs.Laws.{ToldRulesAreApart}
 use Rattle.zone_build.specs.Plain.{owned_of, plain_of}
 use Rattle.zone_build.specs.Zone.{Zone, IsCanonical, IsRising, IsValid, order_of}
@@ -24,26 +24,26 @@ use Rattle.zone_build.proofs.OrderLemmas.{bytes_cmp, bytes_cmp-equal, order_of-t
 rising_one : (records : List Record) → IsRising records → (one two : Record) → Contains records one → Contains records two → order_of one two ≡ Equal → one ≡ two
 rising_one [] rising one two h k e = absurd (Contains-none one h)
 rising_one (x ∷ records) rising one two h k e =
-    by (λ c d. rising_one records rising.1 one two c d e) (head_or_behind x records one h) (head_or_behind x records two k)
+    by (λ c d. rising_one records rising.1 one two c d e) (head_or_after x records one h) (head_or_after x records two k)
   where
     later : (r : Record) → Contains records r → order_of x r ≡ Less
     later r c = AllByRecursion-contains (λ next. order_of x next ≡ Less) records r rising.0 c
 
-    behind : (r : Record) → Contains records r → order_of x r ≡ Equal → ⊥
-    behind r c same = absurd (cc (sym (later r c) ∙ same))
+    after : (r : Record) → Contains records r → order_of x r ≡ Equal → ⊥
+    after r c same = absurd (cc (sym (later r c) ∙ same))
 
     by : (Contains records one → Contains records two → one ≡ two) → (one ≡ x) ⊎ Contains records one → (two ≡ x) ⊎ Contains records two → one ≡ two
     by on (inl i) (inl j) = i ∙ sym j
-    by on (inl i) (inr d) = absurd (behind two d (subst (λ v. order_of v two ≡ Equal) i e))
+    by on (inl i) (inr d) = absurd (after two d (subst (λ v. order_of v two ≡ Equal) i e))
     by on (inr c) (inl j) =
-        absurd (behind one c (subst (λ v. order_of v one ≡ Equal) j (turned_equal order_of order_of-total one two e)))
+        absurd (after one c (subst (λ v. order_of v one ≡ Equal) j (turned_equal order_of order_of-total one two e)))
     by on (inr c) (inr d) = on c d
 
 -- so are rules in canonical order
 canonical_one : (records : List Record) → IsCanonical records → (one two : Record) → one.kind ≡ naptr → two.kind ≡ naptr → Contains records one → Contains records two → order_of one two ≡ Equal → one ≡ two
 canonical_one [] canonical one two p q h k e = absurd canonical
 canonical_one (start ∷ records) canonical one two p q h k e =
-    by (head_or_behind start records one h) (head_or_behind start records two k)
+    by (head_or_after start records one h) (head_or_after start records two k)
   where
     no_start : (r : Record) → r ≡ start → r.kind ≡ naptr → ⊥
     no_start r i kind =
@@ -61,7 +61,7 @@ same_rdata r s e =
     (then_equal (nat_cmp r.preference s.preference) (bytes_cmp (rdata r) (rdata s)) (then_equal (nat_cmp r.order s.order) _ e))
 
 -- rules of a valid zone
-one_rule : (z : Zone) → IsValid z → (name : Labels) (r s : Naptr) → StandsAt (map owned_of z.records) name (rule r) → StandsAt (map owned_of z.records) name (rule s) → rank_of r s ≡ Equal → r ≡ s
+one_rule : (z : Zone) → IsValid z → (name : Labels) (r s : Naptr) → HasItem (map owned_of z.records) name (rule r) → HasItem (map owned_of z.records) name (rule s) → rank_of r s ≡ Equal → r ≡ s
 one_rule z valid name r s h k e =
     let f = rule_has z name r valid h in
     let g = rule_has z name s valid k in
@@ -76,5 +76,5 @@ rules_are_apart zones valid told_zone name r s among h k e =
     let (z, c, is) = in_told zones told_zone among in
     one_rule z (AllByRecursion-contains IsValid zones z valid c) name r s (stands z is (rule r) h) (stands z is (rule s) k) e
   where
-    stands : (z : Zone) → told_zone ≡ plain_of z → (item : plain.Item) → StandsAt told_zone.items name item → StandsAt (map owned_of z.records) name item
-    stands z is item h = subst (λ (v : plain.Zone). StandsAt v.items name item) is h
+    stands : (z : Zone) → told_zone ≡ plain_of z → (item : plain.Item) → HasItem told_zone.items name item → HasItem (map owned_of z.records) name item
+    stands z is item h = subst (λ (v : plain.Zone). HasItem v.items name item) is h

@@ -3,7 +3,7 @@ use Rattle.std.proofs.Common.{◌≡◌, ◌⊎◌, inl, inr, ℕ, zero, suc, �
 use Rattle.std.specs.Prelude.{Contains}
 use Rattle.dns_name.specs.Name.{AreSame, IsBelow, folded_labels}
 use Rattle.naptr_data.specs.Zones.{Labels, Exists, Encloses, IsSource, star}
-use Rattle.naptr_data.proofs.CutLemmas.{Contains-head, Contains-none, head_or_behind}
+use Rattle.naptr_data.proofs.CutLemmas.{Contains-head, Contains-none, head_or_after}
 use Rattle.naptr_data.proofs.BelowLemmas.{below_longer, length_same}
 use Rattle.std.proofs.lemmas.List.Elements.{Contains-append_left, Contains-append_right, Contains-append_cases}
 use Rattle.zone_build.specs.Zone.{Zone}
@@ -99,7 +99,7 @@ deciding_longer zones name zone more b not d = record {
   among = Contains-append_right zones (more ∷ []) more (Contains-head more []);
   above = b;
   longest = λ z c h. elim (among_zones zones more z c) [
-    | inl old ↦ inr (behind z old h)
+    | inl old ↦ inr (after z old h)
     | inr new ↦ inl new
   ];
 }
@@ -110,8 +110,8 @@ deciding_longer zones name zone more b not d = record {
       | inr more' ↦ absurd (not (below_longer name zone.apex more.apex d.above b more'))
     ]
 
-    behind : (z : Zone) → Contains zones z → IsBelow name z.apex → length z.apex < length more.apex
-    behind z c h = let far = longer in elim (d.longest z c h) [
+    after : (z : Zone) → Contains zones z → IsBelow name z.apex → length z.apex < length more.apex
+    after z c h = let far = longer in elim (d.longest z c h) [
       | inl same ↦ subst (λ (y : Zone). length y.apex < length more.apex) (sym same) far
       | inr less ↦ omega (arith, less, far)
     ]
@@ -120,8 +120,8 @@ deciding_longer zones name zone more b not d = record {
 pub apart_pair : (zones : List Zone) (at : ℕ) (zone more : Zone) → AreApart zones → at < length zones → more ≡ get_or zones at more → Contains (take at zones) zone → ¬ AreSame zone.apex more.apex
 apart_pair [] at zone more apart within is c same = absurd (omega arith)
 apart_pair (z ∷ zones) zero zone more apart within is c same = Contains-none zone c
-apart_pair (z ∷ zones) (suc at) zone more apart within is c same = elim (head_or_behind z (take at zones) zone c) [
+apart_pair (z ∷ zones) (suc at) zone more apart within is c same = elim (head_or_after z (take at zones) zone c) [
   | inl here ↦
       AllByRecursion-contains (λ (other : Zone). ¬ AreSame other.apex z.apex) zones more apart.0 (at, omega arith, sym is) (sym same ∙ ap (λ (y : Zone). folded_labels y.apex) here)
-  | inr behind ↦ apart_pair zones at zone more apart.1 (omega arith) is behind same
+  | inr after ↦ apart_pair zones at zone more apart.1 (omega arith) is after same
 ]

@@ -6,10 +6,10 @@ use Rattle.std.proofs.lemmas.List.{map-append}
 use Rattle.std.proofs.lemmas.List.Sums.{sum_by-append}
 use Rattle.dns_wire.specs.Rdata.{rdata_of}
 use Rattle.std.proofs.lemmas.List.Elements.{Contains-append_left, Contains-append_right, Contains-append_cases}
-use Rattle.naptr_data.proofs.CutLemmas.{Contains-head, Contains-behind, Contains-none, Contains-middle, head_or_behind}
-use Rattle.naptr_data.specs.Zones.{Labels, Item, Owned, Exists, StandsAt, IsFirstAlias, AreRules, IsOffer, IsDelegated, rule, alias, delegation}
+use Rattle.naptr_data.proofs.CutLemmas.{Contains-head, Contains-after, Contains-none, Contains-middle, head_or_after}
+use Rattle.naptr_data.specs.Zones.{Labels, Item, Owned, Exists, HasItem, IsFirstAlias, AreRules, IsOffer, IsDelegated, rule, alias, delegation}
 use Rattle.naptr_data.specs.Zones as plain
-use Rattle.naptr_data.specs.declared.rule.Naptr.{Naptr}
+use Rattle.naptr_rule.specs.declared.rule.Naptr.{Naptr}
 use Rattle.naptr_data.specs.declared.offer.Offer.{Offer}
 use Rattle.dns_name.specs.Name.{AreSame, IsBelow, folded_labels}
 use Rattle.naptr_data.proofs.BelowLemmas.{below_itself, below_same_top}
@@ -92,25 +92,25 @@ kind_of_record zone one valid c = kind_is one.content one.kind one.class one.bel
 -- a told zone is told of a zone
 pub in_told : (zones : List Zone) (z : plain.Zone) → Contains (told zones) z → (zone : Zone) × Contains zones zone × (z ≡ plain_of zone)
 in_told [] z c = absurd (Contains-none z c)
-in_told (x ∷ zones) z c = elim (head_or_behind (plain_of x) (told zones) z c) [
+in_told (x ∷ zones) z c = elim (head_or_after (plain_of x) (told zones) z c) [
   | inl here ↦ (x, Contains-head x zones, here)
-  | inr behind ↦ let f = in_told zones z behind in (f.0, Contains-behind x zones f.0 f.1, f.2)
+  | inr after ↦ let f = in_told zones z after in (f.0, Contains-after x zones f.0 f.1, f.2)
 ]
 
 -- the zone that decides does so as it is told
-cut_at : (zones : List Zone) (zone : Zone) → Contains zones zone → (before : List Zone) × (behind : List Zone) × (zones ≡ before ++ zone ∷ behind)
+cut_at : (zones : List Zone) (zone : Zone) → Contains zones zone → (before : List Zone) × (after : List Zone) × (zones ≡ before ++ zone ∷ after)
 cut_at [] zone c = absurd (Contains-none zone c)
-cut_at (x ∷ zones) zone c = elim (head_or_behind x zones zone c) [
+cut_at (x ∷ zones) zone c = elim (head_or_after x zones zone c) [
   | inl here ↦ ([], zones, ap (λ z. z ∷ zones) (sym here))
-  | inr behind ↦ let f = cut_at zones zone behind in (x ∷ f.0, f.1, ap (λ l. x ∷ l) f.2)
+  | inr after ↦ let f = cut_at zones zone after in (x ∷ f.0, f.1, ap (λ l. x ∷ l) f.2)
 ]
 
-apart_cut : (before : List Zone) (zone : Zone) (behind : List Zone) (z : Zone) → AreApart (before ++ zone ∷ behind) → Contains before z → ¬ AreSame zone.apex z.apex
-apart_cut [] zone behind z a c same = Contains-none z c
-apart_cut (x ∷ before) zone behind z a c same = elim (head_or_behind x before z c) [
+apart_cut : (before : List Zone) (zone : Zone) (after : List Zone) (z : Zone) → AreApart (before ++ zone ∷ after) → Contains before z → ¬ AreSame zone.apex z.apex
+apart_cut [] zone after z a c same = Contains-none z c
+apart_cut (x ∷ before) zone after z a c same = elim (head_or_after x before z c) [
   | inl here ↦
-      AllByRecursion-contains (λ (o : Zone). ¬ AreSame o.apex x.apex) (before ++ zone ∷ behind) zone a.0 (Contains-middle before zone behind) (subst (λ (y : Zone). AreSame zone.apex y.apex) here same)
-  | inr further ↦ apart_cut before zone behind z a.1 further same
+      AllByRecursion-contains (λ (o : Zone). ¬ AreSame o.apex x.apex) (before ++ zone ∷ after) zone a.0 (Contains-middle before zone after) (subst (λ (y : Zone). AreSame zone.apex y.apex) here same)
+  | inr further ↦ apart_cut before zone after z a.1 further same
 ]
 
 decides_told : (zones : List Zone) (name : Labels) (zone : Zone) → AreZones zones → Decides zones name zone → plain.Decides (told zones) name (plain_of zone)
@@ -118,7 +118,7 @@ decides_told zones name zone are d =
     let f = cut_at zones zone d.among in
     record {
       before = told f.0;
-      behind = told f.1;
+      after = told f.1;
       parts = ap told f.2 ∙ map-append plain_of f.0 (zone ∷ f.1);
       above = d.above;
       longer = λ z c b.
@@ -132,7 +132,7 @@ decides_told zones name zone are d =
       longest = λ z c b.
           let g = in_told f.1 z c in
           let e = ap (λ (p : plain.Zone). p.apex) g.2 in
-          let among : Contains zones g.0 = subst (λ l. Contains l g.0) (sym f.2) (Contains-append_right f.0 (zone ∷ f.1) g.0 (Contains-behind zone f.1 g.0 g.1)) in
+          let among : Contains zones g.0 = subst (λ l. Contains l g.0) (sym f.2) (Contains-append_right f.0 (zone ∷ f.1) g.0 (Contains-after zone f.1 g.0 g.1)) in
           elim (d.longest g.0 among (subst (IsBelow name) e b)) [
             | inl same ↦ omega (arith, ap length e, ap (λ (y : Zone). length y.apex) same)
             | inr less ↦ omega (arith, less, ap length e)
@@ -165,17 +165,17 @@ served_told zones name zone source are s =
     (decides_told zones name zone are s.decides, (λ d. let f = delegation_cuts zone name valid d in s.uncut f.0 f.1 f.2), s.stands_for)
 
 -- what stands at a name is of the kind of its item
-stands_record : (records : List Record) (name : Labels) (item : Item) → StandsAt (map owned_of records) name item → (one : Record) × Contains records one × AreSame one.owner name × (item_of one.content ≡ item)
+stands_record : (records : List Record) (name : Labels) (item : Item) → HasItem (map owned_of records) name item → (one : Record) × Contains records one × AreSame one.owner name × (item_of one.content ≡ item)
 stands_record records name item (owner, c, same) =
     let f = in_owned records (record { owner = owner; item = item }) c in
     (f.0, f.1, subst (λ o. AreSame o name) (ap (λ (o : Owned). o.owner) f.2) same, sym (ap (λ (o : Owned). o.item) f.2))
 
-alias_has : (zone : Zone) (source target : Labels) → IsValid zone → StandsAt (map owned_of zone.records) source (alias target) → HasKind zone source cname
+alias_has : (zone : Zone) (source target : Labels) → IsValid zone → HasItem (map owned_of zone.records) source (alias target) → HasKind zone source cname
 alias_has zone source target valid s =
     let f = stands_record zone.records source (alias target) s in
     (f.0, f.1, (f.2, kind_of_record zone f.0 valid f.1 ∙ ap kind_of (alias_content f.0.content target f.3)))
 
-pub rule_has : (zone : Zone) (source : Labels) (r : Naptr) → IsValid zone → StandsAt (map owned_of zone.records) source (rule r) → (one : Record) × Contains zone.records one × IsIn source naptr one × (one.content ≡ content.Naptr r)
+pub rule_has : (zone : Zone) (source : Labels) (r : Naptr) → IsValid zone → HasItem (map owned_of zone.records) source (rule r) → (one : Record) × Contains zone.records one × IsIn source naptr one × (one.content ≡ content.Naptr r)
 rule_has zone source r valid s =
     let f = stands_record zone.records source (rule r) s in
     let is = rule_content f.0.content r f.3 in
@@ -186,23 +186,23 @@ no_answer (inl e) = absurd (omega (arith, e))
 no_answer (inr e) = absurd (omega (arith, e))
 
 -- where no alias is met none stands there
-no_alias : (zone : Zone) (source : Labels) → IsValid zone → ¬ MeetsAlias zone source naptr → (target : Labels) → ¬ StandsAt (map owned_of zone.records) source (alias target)
+no_alias : (zone : Zone) (source : Labels) → IsValid zone → ¬ MeetsAlias zone source naptr → (target : Labels) → ¬ HasItem (map owned_of zone.records) source (alias target)
 no_alias zone source valid not target s = not (alias_has zone source target valid s, no_answer)
 
 -- a record of the set's name and kind is in the set
 in_set : (records : List Record) (owner : Labels) (kind : ℕ) (set : List Record) (one : Record) → IsSet records owner kind set → Contains records one → IsIn owner kind one → Contains set one
-in_set records owner kind set one s c i = elim (Contains-append_cases s.before (set ++ s.behind) one (subst (λ l. Contains l one) s.parts c)) [
+in_set records owner kind set one s c i = elim (Contains-append_cases s.before (set ++ s.after) one (subst (λ l. Contains l one) s.parts c)) [
   | inl front ↦ absurd (AllByRecursion-contains (λ r. ¬ IsIn owner kind r) s.before one s.none_before front i)
-  | inr rest ↦ elim (Contains-append_cases set s.behind one rest) [
+  | inr rest ↦ elim (Contains-append_cases set s.after one rest) [
     | inl here ↦ here
-    | inr back ↦ absurd (AllByRecursion-contains (λ r. ¬ IsIn owner kind r) s.behind one s.none_behind back i)
+    | inr back ↦ absurd (AllByRecursion-contains (λ r. ¬ IsIn owner kind r) s.after one s.none_after back i)
   ]
 ]
 
 set_in : (records : List Record) (owner : Labels) (kind : ℕ) (set : List Record) (one : Record) → IsSet records owner kind set → Contains set one → Contains records one
-set_in records owner kind set one s c = subst (λ l. Contains l one) (sym s.parts) (Contains-append_right s.before (set ++ s.behind) one (Contains-append_left set s.behind one c))
+set_in records owner kind set one s c = subst (λ l. Contains l one) (sym s.parts) (Contains-append_right s.before (set ++ s.after) one (Contains-append_left set s.after one c))
 
-stands_in : (records : List Record) (name : Labels) (one : Record) (item : Item) → Contains records one → AreSame one.owner name → item_of one.content ≡ item → StandsAt (map owned_of records) name item
+stands_in : (records : List Record) (name : Labels) (one : Record) (item : Item) → Contains records one → AreSame one.owner name → item_of one.content ≡ item → HasItem (map owned_of records) name item
 stands_in records name one item c same is =
     (one.owner, subst (λ (i : Item). Contains (map owned_of records) (record { owner = one.owner; item = i })) is (owned_in records one c), same)
 
@@ -221,14 +221,14 @@ rules_told zone source set rules valid not s are = record {
   rising = are.rising;
 }
 
-no_rules : (zone : Zone) (source : Labels) → ((target : Labels) → ¬ StandsAt (map owned_of zone.records) source (alias target)) → ((r : Naptr) → ¬ StandsAt (map owned_of zone.records) source (rule r)) → AreRules (map owned_of zone.records) source []
+no_rules : (zone : Zone) (source : Labels) → ((target : Labels) → ¬ HasItem (map owned_of zone.records) source (alias target)) → ((r : Naptr) → ¬ HasItem (map owned_of zone.records) source (rule r)) → AreRules (map owned_of zone.records) source []
 no_rules zone source alias_none rule_none = record {
   none = alias_none;
   each = λ r. (λ c. absurd (Contains-none r c), λ s. absurd (rule_none r s));
   rising = tt;
 }
 
-stands_exists : (zone : Zone) (name : Labels) (item : Item) → StandsAt (map owned_of zone.records) name item → Exists (plain_of zone) name
+stands_exists : (zone : Zone) (name : Labels) (item : Item) → HasItem (map owned_of zone.records) name item → Exists (plain_of zone) name
 stands_exists zone name item (owner, c, same) =
     inr (record { owner = owner; item = item }, c, below_same_top owner owner name same (below_itself owner))
 
@@ -237,12 +237,12 @@ alias_told : (zone : Zone) (source target : Labels) (one : Record) → IsValid z
 alias_told zone source target one valid s is = record {
   owner = one.owner;
   before = map owned_of s.before;
-  behind = map owned_of s.behind;
-  parts = ap (map owned_of) s.parts ∙ map-append owned_of s.before (one ∷ s.behind) ∙ ap (λ (i : Item). map owned_of s.before ++ (record { owner = one.owner; item = i }) ∷ map owned_of s.behind) (ap item_of is);
+  after = map owned_of s.after;
+  parts = ap (map owned_of) s.parts ∙ map-append owned_of s.before (one ∷ s.after) ∙ ap (λ (i : Item). map owned_of s.before ++ (record { owner = one.owner; item = i }) ∷ map owned_of s.after) (ap item_of is);
   here = s.each.0.0;
   first = λ earlier st.
       let f = stands_record s.before source (alias earlier) st in
-      let among : Contains zone.records f.0 = subst (λ l. Contains l f.0) (sym s.parts) (Contains-append_left s.before (one ∷ s.behind) f.0 f.1) in
+      let among : Contains zone.records f.0 = subst (λ l. Contains l f.0) (sym s.parts) (Contains-append_left s.before (one ∷ s.after) f.0 f.1) in
       AllByRecursion-contains (λ r. ¬ IsIn source cname r) s.before f.0 s.none_before f.1 (f.2, kind_of_record zone f.0 valid among ∙ ap kind_of (alias_content f.0.content earlier f.3));
 }
 
@@ -274,16 +274,16 @@ two_rising : (one next : Record) (rest : List Record) → IsRising (one ∷ (nex
 two_rising one next rest r same = cc (sym r.0.0, repeats_equal one next same)
 
 -- an alias that is found is one CNAME
-one_alias : (zone : Zone) (source : Labels) (before set behind : List Record) → IsValid zone → zone.records ≡ before ++ (set ++ behind) → AllByRecursion (IsIn source cname) set → ((one : Record) → Contains set one → Contains zone.records one) → 0 < length set → (one : Record) × (set ≡ one ∷ []) × Contains zone.records one × (one.kind ≡ cname)
-one_alias zone source before [] behind valid parts each in_all some = absurd (omega arith)
-one_alias zone source before (one ∷ []) behind valid parts each in_all some = (one, refl, in_all one (Contains-head one []), each.0.1)
-one_alias zone source before (one ∷ next ∷ set) behind valid parts each in_all some =
-    let same = valid.alias one next (in_all one (Contains-head one (next ∷ set))) (in_all next (Contains-behind one (next ∷ set) next (Contains-head next set))) each.0.1 (each.0.0 ∙ sym each.1.0.0) in
+one_alias : (zone : Zone) (source : Labels) (before set after : List Record) → IsValid zone → zone.records ≡ before ++ (set ++ after) → AllByRecursion (IsIn source cname) set → ((one : Record) → Contains set one → Contains zone.records one) → 0 < length set → (one : Record) × (set ≡ one ∷ []) × Contains zone.records one × (one.kind ≡ cname)
+one_alias zone source before [] after valid parts each in_all some = absurd (omega arith)
+one_alias zone source before (one ∷ []) after valid parts each in_all some = (one, refl, in_all one (Contains-head one []), each.0.1)
+one_alias zone source before (one ∷ next ∷ set) after valid parts each in_all some =
+    let same = valid.alias one next (in_all one (Contains-head one (next ∷ set))) (in_all next (Contains-after one (next ∷ set) next (Contains-head next set))) each.0.1 (each.0.0 ∙ sym each.1.0.0) in
     absurd (apart before (subst IsCanonical parts valid.order) same)
   where
-    apart : (before : List Record) → IsCanonical (before ++ ((one ∷ next ∷ set) ++ behind)) → AreRepeats one next → ⊥
+    apart : (before : List Record) → IsCanonical (before ++ ((one ∷ next ∷ set) ++ after)) → AreRepeats one next → ⊥
     apart [] c same = absurd (omega (arith, sym c.0 ∙ each.0.1))
-    apart (x ∷ before) c same = two_rising one next (set ++ behind) (rising_end before ((one ∷ next ∷ set) ++ behind) c.2) same
+    apart (x ∷ before) c same = two_rising one next (set ++ after) (rising_end before ((one ∷ next ∷ set) ++ after) c.2) same
 
 cname_content : (c : Content) → kind_of c ≡ cname → IsTrue (is_whole c) → (target : Labels) × (c ≡ content.Cname target)
 cname_content (content.A address) e w = absurd (omega (arith, e))
@@ -315,7 +315,7 @@ found_is_readable zones name kind (found.Cut set) are h = tt
 found_is_readable zones name kind (found.Alias set) are (zone, source, served, met, s) =
     let valid = valid_zone zones zone are served.decides.among in
     let some = set_nonempty zone.records source cname set.now met.0.0 s met.0.1 met.0.2 in
-    let f = one_alias zone source s.before set.now s.behind valid s.parts s.each (λ one c. set_in zone.records source cname set.now one s c) some in
+    let f = one_alias zone source s.before set.now s.after valid s.parts s.each (λ one c. set_in zone.records source cname set.now one s c) some in
     let t = cname_content f.0.content (sym (kind_of_record zone f.0 valid f.2) ∙ f.3) (valid.plain f.0 f.2).whole in
     (f.0, t.0, f.1, t.1)
 found_is_readable zones name kind (found.Set set) are (zone, source, k, served, not, answered, s) =

@@ -10,13 +10,13 @@ use Rattle.dns_wire.specs.declared.record.Record.{Record}
 use Rattle.zone_db.specs.LookUp.{AreRulesOf}
 use Rattle.zone_build.proofs.ListLemmas.{turn_of}
 use Rattle.std.proofs.lemmas.List.Elements.{Contains-append_left, Contains-append_right, Contains-append_cases}
-use Rattle.naptr_data.specs.Rank.{rank_of}
-use Rattle.naptr_data.specs.Rdata.{IsRule}
+use Rattle.naptr_rule.specs.Rank.{rank_of}
+use Rattle.naptr_rule.specs.Rdata.{IsRule}
 use Rattle.naptr_data.specs.Zones.{IsRising}
-use Rattle.naptr_data.specs.declared.rule.Naptr.{Naptr}
-use Rattle.naptr_data.proofs.CutLemmas.{head_or_behind, Contains-head, Contains-behind, Contains-none}
+use Rattle.naptr_rule.specs.declared.rule.Naptr.{Naptr}
+use Rattle.naptr_data.proofs.CutLemmas.{head_or_after, Contains-head, Contains-after, Contains-none}
 use Rattle.naptr_data.proofs.RisingLemmas.{turned}
-use Rattle.naptr_data.proofs.RuleLemmas.{rank_of-total, rank_of-equal}
+use Rattle.naptr_rule.proofs.RuleLemmas.{rank_of-total, rank_of-equal}
 use Rattle.zone_db.specs.Offering.{IsPlace}
 
 All-weaker : (P Q : Naptr → Type 0) (xs : List Naptr) → ((x : Naptr) → P x → Q x) → AllByRecursion P xs → AllByRecursion Q xs
@@ -30,16 +30,16 @@ All-insert P (y ∷ xs) (suc at) x all h = (all.0, All-insert P xs at x all.1 h)
 
 -- a rule at its place leaves a rising list
 insert_rising : (rules : List Naptr) (at : ℕ) (one : Naptr) → IsRising rules → ((k : ℕ) (d : Naptr) → k < at → rank_of (get_or rules k d) one ≡ Less) → ((d : Naptr) → at < length rules → rank_of (get_or rules at d) one ≡ Greater) → at ≤ length rules → IsRising (take at rules ++ one ∷ drop at rules)
-insert_rising [] zero one r before behind within = (tt, tt)
-insert_rising (e ∷ rules) zero one r before behind within =
-    let less : rank_of one e ≡ Less = turned e one (behind e (omega arith)) in
+insert_rising [] zero one r before after within = (tt, tt)
+insert_rising (e ∷ rules) zero one r before after within =
+    let less : rank_of one e ≡ Less = turned e one (after e (omega arith)) in
     ((less, All-weaker (λ o. rank_of e o ≡ Less) (λ o. rank_of one o ≡ Less) rules (λ o h. rank_of-total.trans one e o less h) r.0), r)
-insert_rising [] (suc at) one r before behind within = absurd (omega arith)
-insert_rising (e ∷ rules) (suc at) one r before behind within =
-    (All-insert (λ o. rank_of e o ≡ Less) rules at one r.0 (before 0 e (omega arith)), insert_rising rules at one r.1 (λ k d h. before (suc k) d (omega arith)) (λ d h. behind d (omega arith)) (omega arith))
+insert_rising [] (suc at) one r before after within = absurd (omega arith)
+insert_rising (e ∷ rules) (suc at) one r before after within =
+    (All-insert (λ o. rank_of e o ≡ Less) rules at one r.0 (before 0 e (omega arith)), insert_rising rules at one r.1 (λ k d h. before (suc k) d (omega arith)) (λ d h. after d (omega arith)) (omega arith))
 
 pub IsRising-place : (rules : List Naptr) (at : ℕ) (one : Naptr) → IsRising rules → IsPlace rules one at → at ≤ length rules → IsRising (take at rules ++ one ∷ drop at rules)
-IsRising-place rules at one r p within = insert_rising rules at one r p.before p.behind within
+IsRising-place rules at one r p within = insert_rising rules at one r p.before p.after within
 
 -- what stands in a list with one more item
 pub Contains-insert : (rules : List Naptr) (at : ℕ) (one other : Naptr) → Contains (take at rules ++ one ∷ drop at rules) other ↔ (Contains rules other ⊎ (other ≡ one))
@@ -47,16 +47,16 @@ Contains-insert rules at one other = (
   λ c. elim (Contains-append_cases (take at rules) (one ∷ drop at rules) other c) [
     | inl front ↦ inl (subst (λ xs. Contains xs other) (take-append-drop at rules) (Contains-append_left (take at rules) (drop at rules) other front))
     | inr back ↦
-        elim (head_or_behind one (drop at rules) other back) [
+        elim (head_or_after one (drop at rules) other back) [
           | inl same ↦ inr same
-          | inr behind ↦ inl (subst (λ xs. Contains xs other) (take-append-drop at rules) (Contains-append_right (take at rules) (drop at rules) other behind))
+          | inr after ↦ inl (subst (λ xs. Contains xs other) (take-append-drop at rules) (Contains-append_right (take at rules) (drop at rules) other after))
         ]
   ],
   λ c. elim c [
     | inl old ↦
         elim (Contains-append_cases (take at rules) (drop at rules) other (subst (λ xs. Contains xs other) (sym (take-append-drop at rules)) old)) [
           | inl front ↦ Contains-append_left (take at rules) (one ∷ drop at rules) other front
-          | inr back ↦ Contains-append_right (take at rules) (one ∷ drop at rules) other (Contains-behind one (drop at rules) other back)
+          | inr back ↦ Contains-append_right (take at rules) (one ∷ drop at rules) other (Contains-after one (drop at rules) other back)
         ]
     | inr same ↦
         Contains-append_right (take at rules) (one ∷ drop at rules) other (subst (λ x. Contains (one ∷ drop at rules) x) (sym same) (Contains-head one (drop at rules)))

@@ -4,7 +4,7 @@ use Rattle.std.specs.Prelude.{Contains}
 use Rattle.std.specs.List.{flat_map}
 use Rattle.std.proofs.lemmas.Bool.Decides.{nat_tests}
 use Rattle.std.proofs.lemmas.List.Elements.{Contains-append_left, Contains-append_right, Contains-append_cases}
-use Rattle.naptr_data.proofs.CutLemmas.{Contains-head, Contains-behind, Contains-none, Contains-middle, head_or_behind}
+use Rattle.naptr_data.proofs.CutLemmas.{Contains-head, Contains-after, Contains-none, Contains-middle, head_or_after}
 use Rattle.naptr_data.proofs.BelowLemmas.{below_itself, below_same_top, below_same_name, below_trans, below_longer}
 use Rattle.naptr_data.proofs.DecideLemmas.{below_parts}
 use Rattle.naptr_data.specs.Zones.{Labels, Owned, Exists, Encloses, star}
@@ -22,16 +22,16 @@ use Rattle.zone_build.proofs.ListLemmas.{AllByRecursion-contains, only_one}
 -- records as they are told
 pub owned_in : (records : List Record) (one : Record) → Contains records one → Contains (map owned_of records) (owned_of one)
 owned_in [] one c = absurd (Contains-none one c)
-owned_in (x ∷ records) one c = elim (head_or_behind x records one c) [
+owned_in (x ∷ records) one c = elim (head_or_after x records one c) [
   | inl here ↦ subst (λ (r : Record). Contains (owned_of x ∷ map owned_of records) (owned_of r)) (sym here) (Contains-head (owned_of x) (map owned_of records))
-  | inr behind ↦ Contains-behind (owned_of x) (map owned_of records) (owned_of one) (owned_in records one behind)
+  | inr after ↦ Contains-after (owned_of x) (map owned_of records) (owned_of one) (owned_in records one after)
 ]
 
 pub in_owned : (records : List Record) (o : Owned) → Contains (map owned_of records) o → (one : Record) × Contains records one × (o ≡ owned_of one)
 in_owned [] o c = absurd (Contains-none o c)
-in_owned (x ∷ records) o c = elim (head_or_behind (owned_of x) (map owned_of records) o c) [
+in_owned (x ∷ records) o c = elim (head_or_after (owned_of x) (map owned_of records) o c) [
   | inl here ↦ (x, Contains-head x records, here)
-  | inr behind ↦ let f = in_owned records o behind in (f.0, Contains-behind x records f.0 f.1, f.2)
+  | inr after ↦ let f = in_owned records o after in (f.0, Contains-after x records f.0 f.1, f.2)
 ]
 
 -- a record stands at or below a name
@@ -183,13 +183,13 @@ highest_none apex name one c k = Contains-none one c
 pub set_has : (records : List Record) (owner : Labels) (kind : ℕ) (set : List Record) → IsSet records owner kind set → 0 < length set → (one : Record) × Contains records one × IsIn owner kind one
 set_has records owner kind [] s some = absurd (omega arith)
 set_has records owner kind (x ∷ set) s some =
-    (x, subst (λ l. Contains l x) (sym s.parts) (Contains-append_right s.before ((x ∷ set) ++ s.behind) x (Contains-head x (set ++ s.behind))), s.each.0)
+    (x, subst (λ l. Contains l x) (sym s.parts) (Contains-append_right s.before ((x ∷ set) ++ s.after) x (Contains-head x (set ++ s.after))), s.each.0)
 
 pub set_none : (records : List Record) (owner : Labels) (kind : ℕ) (set : List Record) → IsSet records owner kind set → length set ≤ 0 → (one : Record) → Contains records one → ¬ IsIn owner kind one
 set_none records owner kind (x ∷ set) s none one c i = absurd (omega arith)
-set_none records owner kind [] s none one c i = elim (Contains-append_cases s.before s.behind one (subst (λ l. Contains l one) s.parts c)) [
+set_none records owner kind [] s none one c i = elim (Contains-append_cases s.before s.after one (subst (λ l. Contains l one) s.parts c)) [
   | inl front ↦ AllByRecursion-contains (λ r. ¬ IsIn owner kind r) s.before one s.none_before front i
-  | inr back ↦ AllByRecursion-contains (λ r. ¬ IsIn owner kind r) s.behind one s.none_behind back i
+  | inr back ↦ AllByRecursion-contains (λ r. ¬ IsIn owner kind r) s.after one s.none_after back i
 ]
 
 -- the first record of a valid zone is its SOA

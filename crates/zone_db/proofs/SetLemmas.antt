@@ -4,7 +4,7 @@ use Rattle.std.specs.Prelude.{IsTrue, nat_lt}
 use Rattle.std.proofs.lemmas.Bool.Decides.{nat_tests}
 use Rattle.std.proofs.lemmas.List.{take_more, take-append-drop}
 use Rattle.std.proofs.lemmas.List.Sums.{sum_by-append}
-use Rattle.naptr_data.proofs.CutLemmas.{Contains-head, Contains-behind}
+use Rattle.naptr_data.proofs.CutLemmas.{Contains-head, Contains-after}
 use Rattle.dns_name.specs.Name.{AreSame}
 use Rattle.dns_name.proofs.NameLemmas.{AllByRecursion-append}
 use Rattle.zone_build.specs.Zone.{Zone, IsValid}
@@ -22,12 +22,12 @@ count_front zones i =
     let whole : record_count zones ≡ record_count (take i zones) + record_count (drop i zones) = ap record_count (sym (take-append-drop i zones)) ∙ sum_by-append (λ (z : Zone). length z.records) (take i zones) (drop i zones) in
     omega arith
 
--- a zone with another apex behind the others
+-- a zone with another apex after the others
 apart_added : (zones : List Zone) (zone : Zone) → AreApart zones → ¬ HoldsApex zones zone.apex → AreApart (zones ++ zone ∷ [])
 apart_added [] zone a not = (tt, tt)
 apart_added (z ∷ zones) zone a not = (
   AllByRecursion-append (λ (other : Zone). ¬ AreSame other.apex z.apex) zones (zone ∷ []) a.0 ((λ same. not (z, Contains-head z zones, sym same)), tt),
-  apart_added zones zone a.1 (λ (y, c, same). not (y, Contains-behind z zones y c, same)),
+  apart_added zones zone a.1 (λ (y, c, same). not (y, Contains-after z zones y c, same)),
 )
 
 not_full : (zones : List Zone) (zone : Zone) → ¬ IsFull zones zone → (length zones + 1 ≤ 64) × (record_count zones + length zone.records ≤ 400_000)

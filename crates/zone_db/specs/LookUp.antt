@@ -2,7 +2,7 @@
 use Rattle.std.specs.Prelude.{◌≡◌, ◌↔◌, ◌⊎◌, ℕ, ◌<◌, ◌≤◌, List, [], ◌∷◌, length, Contains, Option, Some, None}
 use Rattle.dns_name.specs.Name.{AreSame, IsBelow}
 use Rattle.naptr_data.specs.Zones.{Labels, Exists, IsSource, IsRising}
-use Rattle.naptr_data.specs.declared.rule.Naptr.{Naptr}
+use Rattle.naptr_rule.specs.declared.rule.Naptr.{Naptr}
 use Rattle.naptr_data.specs.declared.offer.Offer.{Offer}
 use Rattle.naptr_data.specs.declared.offer.Offer.TheVariants as offer
 use Rattle.dns_wire.specs.Kinds.{ns, cname, soa}

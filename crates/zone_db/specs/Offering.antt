@@ -1,9 +1,9 @@
 -- Zones as a source of rules, for private functions but for `Asked` (this project's own).
 use Rattle.std.specs.Prelude.{◌≡◌, ℕ, ◌<◌, ◌≤◌, List, [], ◌∷◌, length, slice_index_or, ⊤}
 use Rattle.std.specs.declared.cmp.Ordering.TheVariants.{Less, Greater}
-use Rattle.naptr_data.specs.Rank.{rank_of}
+use Rattle.naptr_rule.specs.Rank.{rank_of}
 use Rattle.naptr_data.specs.Zones.{Labels}
-use Rattle.naptr_data.specs.declared.rule.Naptr.{Naptr}
+use Rattle.naptr_rule.specs.declared.rule.Naptr.{Naptr}
 use Rattle.dns_wire.specs.declared.content.Content.TheVariants as content
 use Rattle.dns_wire.specs.declared.record.Record.{Record}
 use Rattle.zone_build.specs.Zone.{Zone}
@@ -18,7 +18,7 @@ pub record Asked : Type 0 where
 -- a rule goes here among others: all before rank before it, and the next one after it
 pub record IsPlace (rules : List Naptr) (rule : Naptr) (at : ℕ) : Type 0 where
   pub before : (k : ℕ) (d : Naptr) → k < at → rank_of (slice_index_or rules k d) rule ≡ Less
-  pub behind : (d : Naptr) → at < length rules → rank_of (slice_index_or rules at d) rule ≡ Greater
+  pub after : (d : Naptr) → at < length rules → rank_of (slice_index_or rules at d) rule ≡ Greater
 
 -- an alias that was found is one CNAME, and a set that was found is not large
 abbrev pub IsReadable : Found → Type 0

@@ -1,7 +1,7 @@
 //! The rules of a set, in the order of rules.
 ghost use Rattle.std.specs.Prelude.{◌≡◌, ◌↔◌, ◌⊎◌, ◌+◌, ◌≤◌, [], Contains, OnOk, IfOk, IfSome, IfNone, length};
 ghost use Rattle.naptr_data.specs.Zones.{IsRising};
-ghost use Rattle.naptr_data.specs.declared.rule.Naptr.{Naptr};
+ghost use Rattle.naptr_rule.specs.declared.rule.Naptr.{Naptr};
 ghost use Rattle.dns_wire.specs.declared.content.Content.TheVariants as content;
 ghost use Rattle.zone_db.specs.LookUp.{AreRulesOf};
 ghost use Rattle.zone_db.specs.Offering.{IsPlace};
@@ -21,7 +21,7 @@ pub(crate) struct RisingRules {
 
 impl Model for RisingRules {
     ghost use Rattle.std.specs.Prelude.{List};
-    ghost use Rattle.naptr_data.specs.declared.rule.Naptr.{Naptr};
+    ghost use Rattle.naptr_rule.specs.declared.rule.Naptr.{Naptr};
 
     ghost Value = { List Naptr };
 

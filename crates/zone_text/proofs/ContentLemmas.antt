@@ -13,9 +13,9 @@ use Rattle.dns_name.specs.Name.{IsName}
 use Rattle.dns_name.specs.Text.{byte_text, label_text, text_of}
 use Rattle.dns_name.proofs.NameLemmas.{AllByRecursion-append}
 use Rattle.dns_name.proofs.SpellLemmas.{name_of-text_of}
-use Rattle.naptr_data.specs.Text.{quoted}
-use Rattle.naptr_data.specs.Zones.{Labels}
-use Rattle.naptr_data.specs.declared.rule.Naptr.{Naptr}
+use Rattle.rdata_field.specs.Strings.{quoted}
+use Rattle.dns_name.specs.Name.{Labels}
+use Rattle.naptr_rule.specs.declared.rule.Naptr.{Naptr}
 use Rattle.dns_wire.specs.declared.content.Soa.{Soa}
 use Rattle.dns_wire.specs.declared.content.Content.{Content}
 use Rattle.dns_wire.specs.declared.content.Content.TheVariants as content

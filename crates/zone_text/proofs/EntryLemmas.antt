@@ -2,7 +2,7 @@ use Rattle.std.proofs.Common.{◌≡◌, ◌∙◌, ℕ, ◌+◌, ◌<◌, ◌�
 use Rattle.std.specs.Prelude.{nat_lt}
 use Rattle.std.proofs.lemmas.List.{append-nil}
 use Rattle.std.proofs.lemmas.Bool.{cond-true, cond_both, lt-ltb}
-use Rattle.naptr_data.specs.Zones.{Labels}
+use Rattle.dns_name.specs.Name.{Labels}
 use Rattle.zone_token.specs.Entries.{beginning, after, ends_entry, entries_from, entries_of, ended_from, ended_of}
 use Rattle.zone_text.specs.Zone.{most_bytes, bytes_of, entry_within, Break, BreaksSoFar, ZoneBreaks}
 use Rattle.zone_text.specs.Reading.{Read, unread, read_after, on_line, step, run, rest_from, rest_of, ◌>>=◌}

@@ -4,7 +4,7 @@ use Rattle.std.specs.Prelude.{cond, ◌==◌, ◌||◌, if◌then◌else◌}
 use Rattle.std.specs.List.{AllByRecursion, flat_map}
 use Rattle.std.proofs.Math.Seq.{take-append_seam, drop-append_seam}
 use Rattle.std.proofs.lemmas.Bool.{cond-true, false≢true}
-use Rattle.naptr_data.specs.Text.{quoted_byte}
+use Rattle.rdata_field.specs.Strings.{quoted_byte}
 use Rattle.dns_name.specs.Name.{IsByte}
 use Rattle.zone_token.specs.Bytes.{is_blank, line_feed, semicolon, opening, closing, quote}
 use Rattle.zone_token.specs.Token.{Token}

@@ -7,7 +7,7 @@ use Rattle.std.proofs.lemmas.Bool.{cond-true, cond-false, cond_both, ne_eqb, eqb
 use Rattle.std.proofs.lemmas.Bool.Decides.{nat_tests}
 use Rattle.dns_name.specs.Name.{IsByte}
 use Rattle.dns_name.specs.Text.{decimal_of}
-use Rattle.naptr_data.specs.Text.{quoted_byte}
+use Rattle.rdata_field.specs.Strings.{quoted_byte}
 use Rattle.zone_token.specs.Bytes.{line_feed, quote, backslash, is_quotable, escaped_byte, is_escape}
 use Rattle.zone_token.specs.Texts.{undone_from, string_of}
 use Rattle.zone_token.specs.Tokens.{is_in_quotes, quoted_from}

@@ -5,7 +5,7 @@ use Rattle.std.proofs.lemmas.List.{append-nil, length-take, length-drop, take_al
 use Rattle.std.proofs.lemmas.List.Concat.{flat_map-append}
 use Rattle.std.proofs.Math.Seq.{drop-append_seam, take-append_seam}
 use Rattle.std.proofs.lemmas.Bool.{and_parts, eqb-true}
-use Rattle.naptr_data.specs.Zones.{Labels}
+use Rattle.dns_name.specs.Name.{Labels}
 use Rattle.dns_wire.specs.Kinds.{internet, is_whole, kind_of}
 use Rattle.dns_wire.specs.declared.record.Record as wire
 use Rattle.zone_token.specs.Entries.{beginning, entries_from, entries_of, ended_from, ended_of, last_entry}

@@ -1,7 +1,7 @@
 use Rattle.std.proofs.Common.{◌≡◌, ◌∙◌, ◌⊎◌, ℕ, ◌<◌, ◌≤◌, List, [], ◌∷◌, length, true, refl, sym, ap, inl, inr, subst, arith}
 use Rattle.std.specs.Prelude.{IsTrue}
 use Rattle.std.proofs.Math.Bool.{Bool-set}
-use Rattle.naptr_data.specs.Zones.{Labels}
+use Rattle.dns_name.specs.Name.{Labels}
 use Rattle.dns_wire.specs.Kinds.{internet, kind_of, is_whole, belongs}
 use Rattle.dns_wire.specs.declared.content.Content.{Content}
 use Rattle.dns_wire.specs.declared.content.Content.TheVariants as content

@@ -4,7 +4,7 @@ use Rattle.std.proofs.lemmas.List.{append-nil}
 use Rattle.std.proofs.lemmas.Bool.{cond-false, eqb-false, ltb-false, ne_eqb, le-ltb}
 use Rattle.std.proofs.lemmas.List.Sums.{sum_by-append}
 use Rattle.zone_token.specs.Bytes.{line_feed}
-use Rattle.naptr_data.specs.Zones.{Labels}
+use Rattle.dns_name.specs.Name.{Labels}
 use Rattle.zone_token.specs.Tokens.{◌>>=◌ as ◌then◌}
 use Rattle.zone_text.specs.Meaning.{entry_of}
 use Rattle.zone_text.specs.Zone.{most_bytes, most_records, beginning_with, advanced, standing_after, Mean, said_in, statements_of, bytes_of, lines_in, unless_full, entry_within, Say, Break}

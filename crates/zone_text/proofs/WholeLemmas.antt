@@ -2,7 +2,7 @@ use Rattle.std.proofs.Common.{◌≡◌, ℕ, ◌+◌, drop, List, [], ◌∷◌
 use Rattle.std.specs.Prelude.{IfOk, nat_lt, bytes_eq, codes}
 use Rattle.std.specs.Option.{ok_or}
 use Rattle.std.proofs.lemmas.Bool.{cond_both, lt-ltb}
-use Rattle.naptr_data.specs.Zones.{Labels}
+use Rattle.dns_name.specs.Name.{Labels}
 use Rattle.dns_wire.specs.Kinds.{is_whole}
 use Rattle.dns_wire.specs.declared.content.Content.{Content}
 use Rattle.zone_token.specs.Token.{Token}

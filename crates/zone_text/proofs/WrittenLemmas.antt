@@ -5,7 +5,7 @@ use Rattle.std.proofs.Math.Seq.{take-append_seam}
 use Rattle.std.specs.List.{flat_map}
 use Rattle.std.specs.Net.Addr.{segments_of}
 use Rattle.std.specs.Net.Text.{hex, groups_text}
-use Rattle.naptr_data.specs.Text.{quoted}
+use Rattle.rdata_field.specs.Strings.{quoted}
 use Rattle.zone_text.specs.FieldsText.{strings_text}
 
 -- what was held stands at the front of what it was made longer to

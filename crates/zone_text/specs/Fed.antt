@@ -1,7 +1,7 @@
 -- What a reader was fed (this project's own).
 use Rattle.std.specs.Prelude.{ℕ, List, drop, Option}
 use Rattle.std.specs.List.{flat_map}
-use Rattle.naptr_data.specs.Zones.{Labels}
+use Rattle.dns_name.specs.Name.{Labels}
 use Rattle.zone_text.specs.declared.fault.TextFault.{TextFault}
 
 -- the origin of a text, the text so far, and the fault that was told

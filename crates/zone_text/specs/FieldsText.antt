@@ -4,8 +4,8 @@ use Rattle.std.specs.List.{flat_map}
 use Rattle.std.specs.Net.Addr.{segments_of}
 use Rattle.std.specs.Net.Text.{ipv4_text, groups_text}
 use Rattle.dns_name.specs.Text.{text_of}
-use Rattle.naptr_data.specs.Text as rule
-use Rattle.naptr_data.specs.Text.{quoted}
+use Rattle.naptr_rule.specs.Text.{rule_text}
+use Rattle.rdata_field.specs.Strings.{quoted}
 use Rattle.dns_wire.specs.declared.content.Soa.{Soa}
 use Rattle.dns_wire.specs.declared.content.Content.{Content}
 use Rattle.dns_wire.specs.declared.content.Content.TheVariants as content
@@ -44,6 +44,6 @@ fields_text (content.Mx preference exchange) = mx_text preference exchange
 fields_text (content.Txt texts) = strings_text texts
 fields_text (content.Aaaa address) = aaaa_text address
 fields_text (content.Srv priority weight port target) = srv_text priority weight port target
-fields_text (content.Naptr naptr) = rule.fields_text naptr
+fields_text (content.Naptr naptr) = rule_text naptr
 fields_text (content.Opt options) = []
 fields_text (content.Raw bytes) = []

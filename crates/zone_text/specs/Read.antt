@@ -1,6 +1,6 @@
 -- What was read, as the reader has it.
 use Rattle.std.specs.Prelude.{◌≡◌, ◌≤◌, ℕ, List, length, map, Ok}
-use Rattle.naptr_data.specs.Zones.{Labels}
+use Rattle.dns_name.specs.Name.{Labels}
 use Rattle.zone_token.specs.Entries.{ended_of}
 use Rattle.zone_text.specs.Zone.{most_bytes}
 use Rattle.zone_text.specs.Reading.{Read, unread, run, rest_of, said_of}

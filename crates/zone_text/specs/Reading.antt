@@ -1,6 +1,6 @@
 -- A plain reading of entries in turn. That it says and breaks exactly as `Zone` defines is proved.
 use Rattle.std.specs.Prelude.{ℕ, ◌+◌, List, [], ◌∷◌, ◌++◌, length, Bool, ◌&&◌, ◌==◌, if◌then◌else◌, Result, Ok, Err}
-use Rattle.naptr_data.specs.Zones.{Labels}
+use Rattle.dns_name.specs.Name.{Labels}
 use Rattle.dns_wire.specs.Kinds.{internet, is_whole, kind_of}
 use Rattle.dns_wire.specs.declared.record.Record as wire
 use Rattle.zone_token.specs.Entries.{beginning, after, ends_entry}

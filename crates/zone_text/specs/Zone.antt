@@ -1,7 +1,7 @@
 -- What a zone text says, and where it breaks (RFC 1035, section 5.1; the limits are this project's own).
 use Rattle.std.specs.Prelude.{◌≡◌, ◌⊎◌, ⊤, IsTrue, ℕ, ◌+◌, ◌≤◌, nat_lt, List, [], ◌∷◌, ◌++◌, length, count_by, ◌==◌, if◌then◌else◌, Some, None, Result, Ok, Err}
 use Rattle.std.specs.List.{flat_map}
-use Rattle.naptr_data.specs.Zones.{Labels}
+use Rattle.dns_name.specs.Name.{Labels}
 use Rattle.dns_wire.specs.Kinds.{internet, is_whole, kind_of}
 use Rattle.dns_wire.specs.declared.record.Record as wire
 use Rattle.zone_token.specs.Bytes.{line_feed}

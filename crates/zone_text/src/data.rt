@@ -10,7 +10,7 @@ use crate::kind::Kind;
 use dns_name::Name;
 use dns_wire::{Content, Soa, Texts};
 use enum_base::{Text255, read_u16, read_u32};
-use naptr_data::Naptr;
+use naptr_rule::Naptr;
 use std::alloc::Global;
 use zone_token::{
     TextWhy, Token, bare_at, ends_at, name_at, read_address, read_quad, read_string, read_time,

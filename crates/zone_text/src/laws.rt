@@ -1,6 +1,6 @@
 //! Laws of zone texts.
 ghost use Rattle.std.specs.Prelude.{◌≡◌, ◌<◌, ◌⊎◌, ◌++◌, ℕ, List, length};
-ghost use Rattle.naptr_data.specs.Zones.{Labels};
+ghost use Rattle.dns_name.specs.Name.{Labels};
 ghost use Rattle.dns_wire.specs.declared.record.Record.{Record};
 ghost use Rattle.zone_text.specs.Laws.{FieldsAreReadAgain};
 ghost use Rattle.zone_text.specs.Zone.{most_bytes, ZoneSays, ZoneBreaks, BreaksSoFar};

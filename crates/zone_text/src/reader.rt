@@ -5,7 +5,7 @@ ghost use Rattle.zone_token.specs.declared.fault.TextWhy.TheVariants.{Memory};
 ghost use Rattle.zone_text.specs.declared.fault.TextFault.{TextFault as Told};
 ghost use Rattle.zone_text.specs.Zone.{most_bytes, ZoneSays, ZoneBreaks, BreaksSoFar};
 ghost use Rattle.std.specs.Prelude.{Ok, Err};
-ghost use Rattle.naptr_data.specs.Zones.{Labels};
+ghost use Rattle.dns_name.specs.Name.{Labels};
 ghost use Rattle.zone_token.specs.Entries.{entries_of};
 ghost use Rattle.zone_text.specs.Read.{IsReading, seen};
 ghost use Rattle.zone_text.specs.Reading.{run, unread};

@@ -3,7 +3,7 @@ ghost use Rattle.std.specs.Prelude.{◌≡◌, ◌<◌, ◌≤◌, ◌+◌, ◌+
 ghost use Rattle.std.specs.Char.{digit_char};
 ghost use Rattle.std.specs.Net.Text.{hex, leading_zero_digits, ipv4_text};
 ghost use Rattle.dns_name.specs.Text.{text_of};
-ghost use Rattle.naptr_data.specs.Text.{quoted};
+ghost use Rattle.rdata_field.specs.Strings.{quoted};
 ghost use Rattle.zone_text.specs.FieldsText.{soa_text, mx_text, srv_text, strings_text, aaaa_text, fields_text};
 ghost use Rattle.zone_text.specs.Laws.{type_of};
 
@@ -11,7 +11,7 @@ use dns_name::Name;
 use dns_wire::{Content, Soa};
 use enum_base::{Buffer, Bytes, MemoryFault, Text255};
 use itoa::Buffer as Digits;
-use naptr_data::quoted;
+use rdata_field::quoted;
 use std::net::Ipv6Addr;
 
 // Two names of at most 1,024 bytes and five numbers of at most ten digits, each after a mark: an SOA record has the most.

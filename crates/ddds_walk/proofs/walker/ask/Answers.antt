@@ -1,5 +1,5 @@
 use Rattle.std.proofs.Common.{◌≡◌, List, take, subst, ap, Err, ◌<◌, length}
-use Rattle.naptr_data.specs.Sources.{Fronts, Fetches}
+use Rattle.naptr_data.specs.Sources.{BringsToFront, Fetches}
 use Rattle.naptr_data.specs.Zones.{Labels}
 use Rattle.ddds_walk.proofs.Asks.{asked_ok, asked_trouble, asked_memory}
 use Rattle.ddds_walk.proofs.walker.ask.Goals as goal
@@ -12,7 +12,7 @@ returns-in-Ok g c =
       asked = asked_ok c.args.limit old new c.args.asked.now c.push.new.self c.args.next.now
           c.requires.once (subst (λ v. length v < c.args.limit) c.as_slice.ensures c.if-as_slice-limit.false) c.requires.new c.in_ok-push.ensures.ok c.in-Ok.ensures.zones c.in-Ok.ensures.room c.in-Ok.ensures.lent
           c.in-Ok.ensures.trouble.later c.in-Ok.ensures.asks c.in-Ok.offer c.in-Ok.ensures.few c.in-Ok.ensures.offered
-          (subst (λ v. (all : List Labels) × Fronts v old.kept all × (new.kept ≡ take old.room all)) c.requires.folded c.in-Ok.ensures.keeps)
+          (subst (λ v. (all : List Labels) × BringsToFront v old.kept all × (new.kept ≡ take old.room all)) c.requires.folded c.in-Ok.ensures.keeps)
           (subst (λ v. Fetches v old.kept old.fetched new.fetched) c.requires.folded c.in-Ok.ensures.fetched) c.in-Ok.ensures.before;
     }
 

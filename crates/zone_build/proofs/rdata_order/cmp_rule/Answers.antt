@@ -1,5 +1,5 @@
 use Rattle.std.proofs.Common.{sym, ap, ◌∙◌}
-use Rattle.naptr_data.specs.Rdata.{rdata}
+use Rattle.naptr_rule.specs.Rdata.{rdata}
 use Rattle.dns_wire.specs.Rdata.{rdata_of}
 use Rattle.dns_wire.specs.declared.content.Content.{Content}
 use Rattle.zone_build.proofs.OrderLemmas.{bytes_cmp}

@@ -1,6 +1,6 @@
 use Rattle.std.proofs.Common.{◌≡◌, [], ◌++◌, take, get_or, codes}
 use Rattle.std.specs.List.{flat_map}
-use Rattle.naptr_data.specs.Text.{quoted}
+use Rattle.rdata_field.specs.Strings.{quoted}
 use Rattle.zone_text.proofs.written.append_strings.Given as goal
 
 abbrev pub invariant-loop-string : goal.invariant-loop-string

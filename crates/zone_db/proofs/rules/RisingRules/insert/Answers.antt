@@ -1,7 +1,7 @@
 use Rattle.std.proofs.Common.{◌≡◌, ◌≤◌, ◌⊎◌, List, ◌∷◌, ◌++◌, take, drop, length, subst, sym}
 use Rattle.std.specs.Prelude.{Contains, ◌↔◌}
 use Rattle.naptr_data.specs.Zones.{IsRising}
-use Rattle.naptr_data.specs.declared.rule.Naptr.{Naptr}
+use Rattle.naptr_rule.specs.declared.rule.Naptr.{Naptr}
 use Rattle.zone_db.specs.Offering.{IsPlace}
 use Rattle.zone_db.proofs.PlaceLemmas.{IsRising-place, Contains-insert}
 use Rattle.zone_db.proofs.rules.RisingRules.insert.Goals as goal
