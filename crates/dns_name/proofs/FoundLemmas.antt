@@ -2,7 +2,7 @@
 use Rattle.std.proofs.Common.{◌≡◌, ◌⊎◌, ℕ, zero, suc, ◌+◌, ◌-◌, ◌*◌, ◌<◌, ◌≤◌, List, [], ◌∷◌, ◌++◌, length, take, drop, get_or, refl, ◌∙◌, ap, subst, inl, inr, arith, unwrap_or}
 use Rattle.std.specs.List.{AllByRecursion}
 use Rattle.dns_name.specs.Name.{IsByte, wire_of}
-use Rattle.dns_name.specs.Wire.{StandsAt, RootAt, LabelAt, PointerAt, behind_pointer, NameAt, Reaches, IsCut, IsBadType, NameBreaks}
+use Rattle.dns_name.specs.Wire.{StandsAt, RootAt, LabelAt, PointerAt, after_pointer, NameAt, Reaches, IsCut, IsBadType, NameBreaks}
 use Rattle.dns_name.specs.declared.wire_fault.WireFault.{WireFault}
 use Rattle.dns_name.specs.declared.wire_fault.WireFault.TheVariants.{Short, BadLabelType, ForwardPointer, NameTooLong}
 use Rattle.dns_name.proofs.WireLemmas.{from_place, label-there}
@@ -79,7 +79,7 @@ run message at all start (suc more) further labels here r short =
 
     on : ((l : List ℕ) → LabelAt message here l → length (wire_of (labels ++ l ∷ [])) ≤ 255 → Found message at) → Kind message here → Found message at
     on again (cut h) = inr (Short here, (labels, start, r, h))
-    on again (root h) = inl (labels, unwrap_or (behind_pointer at r.fields) (here + 1), name_reached message at labels start here r h)
+    on again (root h) = inl (labels, unwrap_or (after_pointer at r.fields) (here + 1), name_reached message at labels start here r h)
     on again (label l h) = with_label l h (again l h) (by_size (length (wire_of (labels ++ l ∷ []))) 255)
     on again (bad h) = inr (BadLabelType here, (labels, start, r, h))
     on again (pointer offset h) = with_pointer offset h (by_size start offset)

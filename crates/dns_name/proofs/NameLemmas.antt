@@ -238,7 +238,7 @@ HoldsName-folded labels len row h =
           ∙ ap (λ n. wire_of (folded_labels labels) ++ replicate (255 - n) 0) same;
     }
 
--- wire bytes cut behind their first label
+-- wire bytes cut after their first label
 pub record Splits (wire label rest : List ℕ) : Type 0 where
   pub labels : labels_of wire ≡ label ∷ labels_of rest
   pub name : IsWire rest

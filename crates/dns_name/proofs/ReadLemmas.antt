@@ -3,7 +3,7 @@ use Rattle.std.proofs.Common.{◌≡◌, ℕ, suc, ◌+◌, ◌<◌, ◌≤◌, 
 use Rattle.std.proofs.lemmas.List.{length-take}
 use Rattle.std.proofs.lemmas.Bool.Decides.{nat_tests}
 use Rattle.dns_name.specs.Name.{wire_of}
-use Rattle.dns_name.specs.Wire.{StandsAt, RootAt, LabelAt, PointerAt, Field, Leads, labels_in, behind_pointer, NameAt, Reaches, IsCut, IsBadType, NameBreaks, by_label, by_pointer}
+use Rattle.dns_name.specs.Wire.{StandsAt, RootAt, LabelAt, PointerAt, Field, Leads, labels_in, after_pointer, NameAt, Reaches, IsCut, IsBadType, NameBreaks, by_label, by_pointer}
 use Rattle.dns_name.specs.declared.wire_fault.WireFault.{WireFault}
 use Rattle.dns_name.specs.declared.wire_fault.WireFault.TheVariants.{Short, BadLabelType, ForwardPointer, NameTooLong}
 use Rattle.dns_name.proofs.WireLemmas.{from_place, one_label, one_pointer, label_no_pointer, one_first, IsStop, one_way}
@@ -28,7 +28,7 @@ stands message at x xs h =
     all_of : (bytes : List ℕ) (y : ℕ) (ys : List ℕ) → bytes ≡ y ∷ ys → take (suc (length ys)) bytes ≡ y ∷ ys
     all_of bytes y ys e = ap (take (suc (length ys))) e ∙ ap (λ l. y ∷ l) (all ys)
 
--- what the byte at a place and the room behind it decide
+-- what the byte at a place and the room after it decide
 pub verdict : ℕ → ℕ → ℕ → Option WireFault
 verdict at byte size =
     cond (nat_le size at) (Some (Short at)) (cond (byte == 0) None (cond (nat_lt byte 64) (cond (nat_lt (at + byte) size) (Some (NameTooLong at)) (Some (Short at))) (cond (nat_lt byte 192) (Some (BadLabelType at)) (cond (nat_lt (at + 1) size) (Some (ForwardPointer at)) (Some (Short at))))))
@@ -232,7 +232,7 @@ one_name message at one two next next' h k =
     let fields : h.fields ≡ k.fields = same.fields in
     let root : h.root ≡ k.root = same.here in (
       h.spelt ∙ ap labels_in fields ∙ sym k.spelt,
-      h.behind ∙ ap (λ f. unwrap_or (behind_pointer at f) (h.root + 1)) fields ∙ ap (λ r. unwrap_or (behind_pointer at k.fields) (r + 1)) root ∙ sym k.behind,
+      h.after ∙ ap (λ f. unwrap_or (after_pointer at f) (h.root + 1)) fields ∙ ap (λ r. unwrap_or (after_pointer at k.fields) (r + 1)) root ∙ sym k.after,
     )
 
 -- one field more
@@ -259,15 +259,15 @@ labels_in-pointer [] offset = refl
 labels_in-pointer (by_label one ∷ fs) offset = ap (λ l. one ∷ l) (labels_in-pointer fs offset)
 labels_in-pointer (by_pointer o ∷ fs) offset = labels_in-pointer fs offset
 
-pub behind-label : (a : ℕ) (fs : List Field) (label : List ℕ) → behind_pointer a (fs ++ by_label label ∷ []) ≡ behind_pointer a fs
-behind-label a [] label = refl
-behind-label a (by_label one ∷ fs) label = behind-label (a + (length one + 1)) fs label
-behind-label a (by_pointer o ∷ fs) label = refl
+pub after-label : (a : ℕ) (fs : List Field) (label : List ℕ) → after_pointer a (fs ++ by_label label ∷ []) ≡ after_pointer a fs
+after-label a [] label = refl
+after-label a (by_label one ∷ fs) label = after-label (a + (length one + 1)) fs label
+after-label a (by_pointer o ∷ fs) label = refl
 
-pub behind-pointer : (message : List ℕ) (s a : ℕ) (fs : List Field) (t h offset : ℕ) → Leads message s a fs t h → behind_pointer a (fs ++ by_pointer offset ∷ []) ≡ Some (unwrap_or (behind_pointer a fs) (h + 2))
-behind-pointer message s a [] t h offset f = ap (λ x. Some (x + 2)) f.1
-behind-pointer message s a (by_label one ∷ fs) t h offset f = behind-pointer message s (a + (length one + 1)) fs t h offset f.1
-behind-pointer message s a (by_pointer o ∷ fs) t h offset f = refl
+pub after-pointer : (message : List ℕ) (s a : ℕ) (fs : List Field) (t h offset : ℕ) → Leads message s a fs t h → after_pointer a (fs ++ by_pointer offset ∷ []) ≡ Some (unwrap_or (after_pointer a fs) (h + 2))
+after-pointer message s a [] t h offset f = ap (λ x. Some (x + 2)) f.1
+after-pointer message s a (by_label one ∷ fs) t h offset f = after-pointer message s (a + (length one + 1)) fs t h offset f.1
+after-pointer message s a (by_pointer o ∷ fs) t h offset f = refl
 
 -- reading begins
 unfoldable pub reaches-start : (message : List ℕ) (at : ℕ) → Reaches message at [] at at
@@ -289,7 +289,7 @@ reaches-pointer message at labels start here offset r p below = record {
   short = r.short;
 }
 
-pub name_reached : (message : List ℕ) (at : ℕ) (labels : List (List ℕ)) (start here : ℕ) (r : Reaches message at labels start here) → RootAt message here → NameAt message at labels (unwrap_or (behind_pointer at r.fields) (here + 1))
+pub name_reached : (message : List ℕ) (at : ℕ) (labels : List (List ℕ)) (start here : ℕ) (r : Reaches message at labels start here) → RootAt message here → NameAt message at labels (unwrap_or (after_pointer at r.fields) (here + 1))
 name_reached message at labels start here r root = record {
   fields = r.fields;
   start = start;
@@ -298,5 +298,5 @@ name_reached message at labels start here r root = record {
   end = root;
   spelt = r.spelt;
   short = r.short;
-  behind = refl;
+  after = refl;
 }

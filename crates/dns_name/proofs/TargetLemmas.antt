@@ -1,7 +1,7 @@
 -- Names that are read by the targets of a message.
 use Rattle.std.proofs.Common.{◌≡◌, ◌⊎◌, ℕ, zero, suc, ◌+◌, ◌-◌, ◌*◌, ◌<◌, ◌≤◌, List, [], ◌∷◌, ◌++◌, length, get_or, Some, refl, sym, ◌∙◌, ap, subst, inl, inr, arith, length-append}
 use Rattle.std.proofs.Math.Nat.{mul-le-mul_right}
-use Rattle.dns_name.specs.Wire.{PointerAt, Field, Leads, labels_in, behind_pointer, by_label, by_pointer}
+use Rattle.dns_name.specs.Wire.{PointerAt, Field, Leads, labels_in, after_pointer, by_label, by_pointer}
 use Rattle.dns_name.specs.Targets.{Hops, AreTargets}
 use Rattle.dns_name.proofs.CodeLemmas.{IsReading}
 use Rattle.dns_name.proofs.WithinLemmas.{start_low}
@@ -70,7 +70,7 @@ targets-more message targets more at to are size hops is place low = by_place (b
         let own : at ≡ place = omega arith in
         subst (λ t. Hops message place t) (sym value) (subst (λ p. Hops message p to) own hops)
 
--- fields behind fields
+-- fields after fields
 leads-more : (message : List ℕ) (s a : ℕ) (fs more : List Field) (t h u k : ℕ) → Leads message s a fs t h → Leads message t h more u k → Leads message s a (fs ++ more) u k
 leads-more message s a [] more t h u k f g =
     subst (λ x. Leads message x a more u k) (sym f.0) (subst (λ x. Leads message t x more u k) (sym f.1) g)
@@ -83,12 +83,12 @@ labels_in-more [] more none = none
 labels_in-more (by_label l ∷ fs) more none = ap (λ x. l ∷ x) (labels_in-more fs more none)
 labels_in-more (by_pointer o ∷ fs) more none = labels_in-more fs more none
 
-behind-more : (a : ℕ) (fs more : List Field) (next : ℕ) → Some next ≡ behind_pointer a fs → behind_pointer a (fs ++ more) ≡ behind_pointer a fs
-behind-more a [] more next is = absurd (cc)
-behind-more a (by_label l ∷ fs) more next is = behind-more (a + (length l + 1)) fs more next is
-behind-more a (by_pointer o ∷ fs) more next is = refl
+after-more : (a : ℕ) (fs more : List Field) (next : ℕ) → Some next ≡ after_pointer a fs → after_pointer a (fs ++ more) ≡ after_pointer a fs
+after-more a [] more next is = absurd (cc)
+after-more a (by_label l ∷ fs) more next is = after-more (a + (length l + 1)) fs more next is
+after-more a (by_pointer o ∷ fs) more next is = refl
 
--- a chain of pointers behind a pointer
+-- a chain of pointers after a pointer
 pub chain-step : (message : List ℕ) (at : ℕ) (wire : List ℕ) (offset next to : ℕ) → IsReading message at wire offset offset (Some next) → Hops message offset to → IsReading message at wire to to (Some next)
 chain-step message at wire offset next to r hops =
     let low = hops-low message offset to hops in
@@ -102,7 +102,7 @@ chain-step message at wire offset next to r hops =
         short = r.far.short;
       };
       bytes = r.bytes;
-      behind = r.behind ∙ sym (behind-more at r.far.fields hops.fields next r.behind);
+      after = r.after ∙ sym (after-more at r.far.fields hops.fields next r.after);
       within = omega arith;
       inside = omega arith;
     }

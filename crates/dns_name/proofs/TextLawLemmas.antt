@@ -293,7 +293,7 @@ fitting-fits own short = ap fitting (sym (name_within-fits own short))
 fitting-past : (own : List (List ℕ)) → 255 < length (wire_of own) → fitting (name_within own) ≡ Err NameTooLong
 fitting-past own long = ap fitting (sym (name_within-long own long))
 
--- the origin behind the labels of a relative text
+-- the origin after the labels of a relative text
 with_origin : (own origin : List (List ℕ)) → option_and_then (λ front. name_within (front ++ origin)) (name_within own) ≡ name_within (own ++ origin)
 with_origin own origin =
     let P = λ (o : Option (List (List ℕ))). option_and_then (λ front. name_within (front ++ origin)) o in

@@ -20,7 +20,7 @@ each-take P xs zero h = tt
 each-take P [] (suc n) h = tt
 each-take P (x ∷ xs) (suc n) h = (h.0, each-take P xs n h.1)
 
--- a length byte with enough bytes behind it begins a label
+-- a length byte with enough bytes after it begins a label
 pub label-there : (message : List ℕ) (at size : ℕ) → AllByRecursion IsByte message → at < length message → size ≡ get_or message at 0 → 0 < size → size < 64 → at + size < length message → LabelAt message at (label_bytes message at size) × (length (label_bytes message at size) ≡ size)
 label-there message at size all inside is some most room =
     let whole : length (label_bytes message at size) ≡ size = omega (arith, length-take size (drop (at + 1) message), length-drop (at + 1) message) in

@@ -4,7 +4,7 @@ use Rattle.std.proofs.lemmas.List.{length-take, append-nil, drop-take, take-take
 use Rattle.std.specs.Prelude.{IfOk}
 use Rattle.std.specs.List.{flat_map}
 use Rattle.dns_name.specs.Name.{label_wire, wire_of}
-use Rattle.dns_name.specs.Wire.{StandsAt, RootAt, LabelAt, PointerAt, Field, Leads, labels_in, behind_pointer, NameAt, Reaches, IsCut, NameBreaks, RunIsCut, NameWithin, WithinBreaks, by_label, by_pointer}
+use Rattle.dns_name.specs.Wire.{StandsAt, RootAt, LabelAt, PointerAt, Field, Leads, labels_in, after_pointer, NameAt, Reaches, IsCut, NameBreaks, RunIsCut, NameWithin, WithinBreaks, by_label, by_pointer}
 use Rattle.dns_name.specs.Fields.{IsAnswer, IsWithin}
 use Rattle.dns_name.specs.declared.wire_fault.WireFault.{WireFault}
 use Rattle.dns_name.specs.declared.wire_fault.WireFault.TheVariants.{Short, ForwardPointer}
@@ -13,23 +13,23 @@ use Rattle.dns_name.specs.declared.wire_fault.WithinFault.TheVariants.{Shape, Wi
 use Rattle.dns_name.proofs.WireLemmas.{IsStop, one_way, from_place}
 use Rattle.dns_name.proofs.ReadLemmas.{stands, pointer_stands, verdict, Ends, root_ends, cut_ends, forward_ends, one_fault, one_name, not_both, reaches-start, reaches-label}
 
--- a name ends behind its place, in the message
-abbrev IsBehind : List ℕ → ℕ → ℕ → Type 0
-IsBehind message at next = (at < next) × (next ≤ length message)
+-- a name ends after its place, in the message
+abbrev IsAfter : List ℕ → ℕ → ℕ → Type 0
+IsAfter message at next = (at < next) × (next ≤ length message)
 
-ends-behind : (message : List ℕ) (s a : ℕ) (fs : List Field) (t h : ℕ) → Leads message s a fs t h → RootAt message h → IsBehind message a (unwrap_or (behind_pointer a fs) (h + 1))
-ends-behind message s a [] t h f root =
+ends-after : (message : List ℕ) (s a : ℕ) (fs : List Field) (t h : ℕ) → Leads message s a fs t h → RootAt message h → IsAfter message a (unwrap_or (after_pointer a fs) (h + 1))
+ends-after message s a [] t h f root =
     let k = (stands message h 0 [] root).inside in let e = f.1 in (omega arith, omega arith)
-ends-behind message s a (by_label l ∷ fs) t h f root =
-    let rest = ends-behind message s (a + (length l + 1)) fs t h f.1 root in
+ends-after message s a (by_label l ∷ fs) t h f root =
+    let rest = ends-after message s (a + (length l + 1)) fs t h f.1 root in
     let low = rest.0 in
     (omega arith, rest.1)
-ends-behind message s a (by_pointer o ∷ fs) t h f root =
+ends-after message s a (by_pointer o ∷ fs) t h f root =
     let k = (pointer_stands message a o f.0).2.inside in (omega arith, omega arith)
 
-pub name_behind : (message : List ℕ) (at : ℕ) (labels : List (List ℕ)) (next : ℕ) → NameAt message at labels next → IsBehind message at next
-name_behind message at labels next n =
-    subst (λ k. IsBehind message at k) (sym n.behind) (ends-behind message at at n.fields n.start n.root n.leads n.end)
+pub name_after : (message : List ℕ) (at : ℕ) (labels : List (List ℕ)) (next : ℕ) → NameAt message at labels next → IsAfter message at next
+name_after message at labels next n =
+    subst (λ k. IsAfter message at k) (sym n.after) (ends-after message at at n.fields n.start n.root n.leads n.end)
 
 -- the clauses of `read_at`
 pub name_iff : (message : List ℕ) (at : ℕ) (r : Result (List (List ℕ) × ℕ) WireFault) → IsAnswer message at r → (labels : List (List ℕ)) (next : ℕ) → (r ≡ Ok (labels, next)) ↔ NameAt message at labels next
@@ -52,9 +52,9 @@ fault_iff message at (Err own) is fault = (
   λ h. ap Err (one_fault message at own fault is h),
 )
 
-pub answer_behind : (message : List ℕ) (at : ℕ) (r : Result (List (List ℕ) × ℕ) WireFault) → IsAnswer message at r → IfOk r (λ read. (at < read.1) × (read.1 ≤ length message))
-answer_behind message at (Ok (own, end)) is = name_behind message at own end is
-answer_behind message at (Err fault) is = tt
+pub answer_after : (message : List ℕ) (at : ℕ) (r : Result (List (List ℕ) × ℕ) WireFault) → IsAnswer message at r → IfOk r (λ read. (at < read.1) × (read.1 ≤ length message))
+answer_after message at (Ok (own, end)) is = name_after message at own end is
+answer_after message at (Err fault) is = tt
 
 -- labels alone, with no pointer: as in a run that begins at 0, where no pointer may stand
 pub record Run (message : List ℕ) (at : ℕ) (labels : List (List ℕ)) (here : ℕ) : Type 0 where
@@ -126,7 +126,7 @@ record FirstRun (message : List ℕ) (to a : ℕ) (fs : List Field) : Type 0 whe
   pub spelt : labels_in fs ≡ labels_in fields ++ rest
   pub end : RootAt (take to message) here ⊎ ((offset : ℕ) × PointerAt (take to message) here offset)
 
-first_run : (message : List ℕ) (to s a : ℕ) (fs : List Field) (t h : ℕ) → Leads message s a fs t h → RootAt message h → unwrap_or (behind_pointer a fs) (h + 1) ≤ to → FirstRun message to a fs
+first_run : (message : List ℕ) (to s a : ℕ) (fs : List Field) (t h : ℕ) → Leads message s a fs t h → RootAt message h → unwrap_or (after_pointer a fs) (h + 1) ≤ to → FirstRun message to a fs
 first_run message to s a [] t h f root low = record {
   fields = [];
   here = h;
@@ -136,7 +136,7 @@ first_run message to s a [] t h f root low = record {
   end = inl (stands_front message to h (0 ∷ []) low root);
 }
 first_run message to s a (by_label l ∷ fs) t h f root low =
-    let below = (ends-behind message s (a + (length l + 1)) fs t h f.1 root).0 in
+    let below = (ends-after message s (a + (length l + 1)) fs t h f.1 root).0 in
     let r = first_run message to s (a + (length l + 1)) fs t h f.1 root low in
     record {
       fields = by_label l ∷ r.fields;
@@ -174,7 +174,7 @@ front_short (y ∷ front) (x ∷ back) fits = let longer = longer_first (y ∷ f
 
 -- a name that ends before a place has no first run that is cut there
 pub within_not_cut : (message : List ℕ) (at to : ℕ) (labels : List (List ℕ)) (next : ℕ) → NameWithin message at to labels next → (place : ℕ) → ¬ RunIsCut (take to message) at place
-within_not_cut message at to labels next (n, low) = by_end (first_run message to at at n.fields n.start n.root n.leads n.end (subst (λ k. k ≤ to) n.behind low))
+within_not_cut message at to labels next (n, low) = by_end (first_run message to at at n.fields n.start n.root n.leads n.end (subst (λ k. k ≤ to) n.after low))
   where
     run : (r : FirstRun message to at n.fields) → Run (take to message) at (labels_in r.fields) r.here
     run r = record {
@@ -219,7 +219,7 @@ field_cut message to a first bytes fits h short kind = by_place (by_size to a)
     by_place (inl none) = inl (let e = front_size message to fits in omega arith)
     by_place (inr inside) = by_kind inside kind
 
-before_or_cut : (message : List ℕ) (at to : ℕ) → to ≤ length message → (s a : ℕ) (fs : List Field) (t h : ℕ) (front : List (List ℕ)) → Leads message s a fs t h → RootAt message h → Reaches (take to message) at front at a → length (wire_of (front ++ labels_in fs)) ≤ 255 → BeforeOrCut message at to (unwrap_or (behind_pointer a fs) (h + 1))
+before_or_cut : (message : List ℕ) (at to : ℕ) → to ≤ length message → (s a : ℕ) (fs : List Field) (t h : ℕ) (front : List (List ℕ)) → Leads message s a fs t h → RootAt message h → Reaches (take to message) at front at a → length (wire_of (front ++ labels_in fs)) ≤ 255 → BeforeOrCut message at to (unwrap_or (after_pointer a fs) (h + 1))
 before_or_cut message at to fits s a [] t h front f root r short = next (by_size (h + 1) to)
   where
     next : (h + 1 ≤ to) ⊎ (to < h + 1) → BeforeOrCut message at to (h + 1)
@@ -228,7 +228,7 @@ before_or_cut message at to fits s a [] t h front f root r short = next (by_size
 before_or_cut message at to fits s a (by_label l ∷ fs) t h front f root r short =
     next (λ low. before_or_cut message at to fits s (a + (length l + 1)) fs t h (front ++ l ∷ []) f.1 root (reaches-label (take to message) at front at a l r (label_front message to a l low f.0) (front_short (front ++ l ∷ []) (labels_in fs) (subst (λ x. length (wire_of x) ≤ 255) (sym (append_assoc front (l ∷ []) (labels_in fs))) short))) (subst (λ x. length (wire_of x) ≤ 255) (sym (append_assoc front (l ∷ []) (labels_in fs))) short)) (by_size (a + (length l + 1)) to)
   where
-    next : (a + (length l + 1) ≤ to → BeforeOrCut message at to (unwrap_or (behind_pointer (a + (length l + 1)) fs) (h + 1))) → (a + (length l + 1) ≤ to) ⊎ (to < a + (length l + 1)) → BeforeOrCut message at to (unwrap_or (behind_pointer (a + (length l + 1)) fs) (h + 1))
+    next : (a + (length l + 1) ≤ to → BeforeOrCut message at to (unwrap_or (after_pointer (a + (length l + 1)) fs) (h + 1))) → (a + (length l + 1) ≤ to) ⊎ (to < a + (length l + 1)) → BeforeOrCut message at to (unwrap_or (after_pointer (a + (length l + 1)) fs) (h + 1))
     next again (inl low) = again low
     next again (inr high) = inr (a, (front, r, field_cut message to a (length l) l fits f.0.0 (omega arith) (inl (refl, f.0.1.some, f.0.1.most))))
 before_or_cut message at to fits s a (by_pointer o ∷ fs) t h front f root r short = next (by_size (a + 2) to) f.0
@@ -241,7 +241,7 @@ before_or_cut message at to fits s a (by_pointer o ∷ fs) t h front f root r sh
 pub before_place : (message : List ℕ) (at to : ℕ) (labels : List (List ℕ)) (next : ℕ) → to ≤ length message → ((place : ℕ) → ¬ RunIsCut (take to message) at place) → NameAt message at labels next → next ≤ to
 before_place message at to labels next fits whole n =
     elim (before_or_cut message at to fits at at n.fields n.start n.root [] n.leads n.end (reaches-start (take to message) at) (subst (λ l. length (wire_of l) ≤ 255) n.spelt n.short)) [
-      | inl low ↦ subst (λ k. k ≤ to) (sym n.behind) low
+      | inl low ↦ subst (λ k. k ≤ to) (sym n.after) low
       | inr (place, cut) ↦ absurd (whole place cut)
     ]
 
@@ -276,6 +276,6 @@ within_fault_iff message at to (Err own) is fault = (
   λ h. ap Err (one_within message at to own fault is h),
 )
 
-pub within_behind : (message : List ℕ) (at to : ℕ) (r : Result (List (List ℕ) × ℕ) WithinFault) → IsWithin message at to r → IfOk r (λ read. (at < read.1) × (read.1 ≤ to))
-within_behind message at to (Ok (own, end)) is = ((name_behind message at own end is.0).0, is.1)
-within_behind message at to (Err fault) is = tt
+pub within_after : (message : List ℕ) (at to : ℕ) (r : Result (List (List ℕ) × ℕ) WithinFault) → IsWithin message at to r → IfOk r (λ read. (at < read.1) × (read.1 ≤ to))
+within_after message at to (Ok (own, end)) is = ((name_after message at own end is.0).0, is.1)
+within_after message at to (Err fault) is = tt

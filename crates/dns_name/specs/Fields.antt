@@ -22,12 +22,12 @@ IsField message at (Err (BadLabelType place)) = (place ≡ at) × IsBadType mess
 IsField message at (Err (ForwardPointer place)) = ⊥
 IsField message at (Err (NameTooLong place)) = ⊥
 
--- the name at a place and the place behind it, or what breaks it
+-- the name at a place and the place after it, or what breaks it
 abbrev pub IsAnswer : List ℕ → ℕ → Result (List (List ℕ) × ℕ) WireFault → Type 0
 IsAnswer message at (Ok (labels, next)) = NameAt message at labels next
 IsAnswer message at (Err fault) = NameBreaks message at fault
 
--- the name whose first label run lies before a place, and the place behind it, or what breaks it
+-- the name whose first label run lies before a place, and the place after it, or what breaks it
 abbrev pub IsWithin : List ℕ → ℕ → ℕ → Result (List (List ℕ) × ℕ) WithinFault → Type 0
 IsWithin message at to (Ok (labels, next)) = NameWithin message at to labels next
 IsWithin message at to (Err fault) = WithinBreaks message at to fault

@@ -7,6 +7,10 @@ use Rattle.std.specs.Cmp.Lexicographic.{slice_cmp}
 use Rattle.enum_base.specs.Folding.{folded}
 use Rattle.enum_base.specs.Padding.{padded}
 
+-- names, as lists of labels
+abbrev pub Labels : Type 0
+Labels = List (List ℕ)
+
 -- a byte
 abbrev pub IsByte : ℕ → Type 0
 IsByte b = b < 256

@@ -9,14 +9,14 @@ use Rattle.dns_name.specs.declared.piece.Piece.TheVariants.{Dot, Byte, Broken}
 use Rattle.dns_name.specs.declared.fault.NameFault.{NameFault}
 use Rattle.dns_name.specs.declared.fault.NameFault.TheVariants.{EmptyLabel, LabelTooLong, NameTooLong, BadEscape, NoOrigin}
 
--- what stands behind a backslash and a digit
+-- what stands after a backslash and a digit
 abbrev pub decimal_piece : ℕ → List ℕ → Piece
 decimal_piece x [] = Broken
 decimal_piece x (y ∷ []) = Broken
 decimal_piece x (y ∷ z ∷ rest) =
     if is_ascii_digit y && is_ascii_digit z && nat_le (decimal_of x y z) 255 then Byte (decimal_of x y z) 3 else Broken
 
--- what stands behind a backslash
+-- what stands after a backslash
 abbrev pub escape_piece : List ℕ → Piece
 escape_piece [] = Broken
 escape_piece (x ∷ rest) = if is_ascii_digit x then decimal_piece x rest else Byte x 1
@@ -77,7 +77,7 @@ abbrev pub fitting : Option (List (List ℕ)) → Result (List (List ℕ)) NameF
 fitting None = Err NameTooLong
 fitting (Some labels) = Ok labels
 
--- the name of what was read, with the origin behind a relative text
+-- the name of what was read, with the origin after a relative text
 abbrev pub finished : Result (Option (List (List ℕ)) × Bool) NameFault → Option (List (List ℕ)) → Result (List (List ℕ)) NameFault
 finished (Err fault) origin = Err fault
 finished (Ok (labels, true)) origin = fitting labels

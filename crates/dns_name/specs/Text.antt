@@ -38,18 +38,18 @@ SpellsBytes text [] = text ≡ []
 SpellsBytes text (byte ∷ bytes) =
     (first : List ℕ) × (rest : List ℕ) × (text ≡ first ++ rest) × SpellsByte first byte × SpellsBytes rest bytes
 
--- a text is cut into texts of these labels, each with a dot behind it
+-- a text is cut into texts of these labels, each with a dot after it
 abbrev pub SpellsDotted : List ℕ → List (List ℕ) → Type 0
 SpellsDotted text [] = text ≡ []
 SpellsDotted text (label ∷ labels) =
     (first : List ℕ) × (rest : List ℕ) × (text ≡ first ++ dot ∷ rest) × SpellsBytes first label × IsLabel label × SpellsDotted rest labels
 
--- an absolute text of these labels: the dot of the root alone, or one or more labels with a dot behind each
+-- an absolute text of these labels: the dot of the root alone, or one or more labels with a dot after each
 abbrev pub IsAbsolute : List ℕ → List (List ℕ) → Type 0
 IsAbsolute text [] = text ≡ dot ∷ []
 IsAbsolute text (label ∷ labels) = SpellsDotted text (label ∷ labels)
 
--- a relative text of these labels: no dot stands behind the last
+-- a relative text of these labels: no dot stands after the last
 abbrev pub IsRelative : List ℕ → List (List ℕ) → Type 0
 IsRelative text labels =
     (front : List ℕ) × (back : List ℕ) × (dotted : List (List ℕ)) × (last : List ℕ) × (text ≡ front ++ back) × (labels ≡ dotted ++ last ∷ []) × SpellsDotted front dotted × SpellsBytes back last × IsLabel last
@@ -58,7 +58,7 @@ IsRelative text labels =
 abbrev pub labels_lent : Option (Bor (List (List ℕ))) → Option (List (List ℕ))
 labels_lent origin = option_map (λ name. name.now) origin
 
--- a text and an origin stand for these labels: a relative text has those of the origin behind its own
+-- a text and an origin stand for these labels: a relative text has those of the origin after its own
 abbrev pub StandsFor : List ℕ → Option (List (List ℕ)) → List (List ℕ) → Type 0
 StandsFor text None labels = IsAbsolute text labels
 StandsFor text (Some origin) labels =

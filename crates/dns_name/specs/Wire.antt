@@ -28,7 +28,7 @@ pub data Field : Type 0 where
   by_label : List ℕ → Field
   by_pointer : ℕ → Field
 
--- such fields lead from a place to another: a label to what stands behind it, a pointer to its offset. There a label run begins.
+-- such fields lead from a place to another: a label to what stands after it, a pointer to its offset. There a label run begins.
 -- The offset is less than the start of the run that the pointer ends
 abbrev pub Leads : List ℕ → ℕ → ℕ → List Field → ℕ → ℕ → Type 0
 Leads message start at [] start' at' = (start ≡ start') × (at ≡ at')
@@ -43,13 +43,13 @@ labels_in [] = []
 labels_in (by_label label ∷ fields) = label ∷ labels_in fields
 labels_in (by_pointer offset ∷ fields) = labels_in fields
 
--- the place behind the first pointer
-abbrev pub behind_pointer : ℕ → List Field → Option ℕ
-behind_pointer at [] = None
-behind_pointer at (by_label label ∷ fields) = behind_pointer (at + (length label + 1)) fields
-behind_pointer at (by_pointer offset ∷ fields) = Some (at + 2)
+-- the place after the first pointer
+abbrev pub after_pointer : ℕ → List Field → Option ℕ
+after_pointer at [] = None
+after_pointer at (by_label label ∷ fields) = after_pointer (at + (length label + 1)) fields
+after_pointer at (by_pointer offset ∷ fields) = Some (at + 2)
 
--- a name at a place, and the place behind it: behind its first pointer, or where it has none behind its root
+-- a name at a place, and the place after it: after its first pointer, or where it has none after its root
 pub record NameAt (message : List ℕ) (at : ℕ) (labels : List (List ℕ)) (next : ℕ) : Type 0 where
   pub fields : List Field
   pub start : ℕ
@@ -58,7 +58,7 @@ pub record NameAt (message : List ℕ) (at : ℕ) (labels : List (List ℕ)) (ne
   pub end : RootAt message root
   pub spelt : labels ≡ labels_in fields
   pub short : length (wire_of labels) ≤ 255
-  pub behind : next ≡ unwrap_or (behind_pointer at fields) (root + 1)
+  pub after : next ≡ unwrap_or (after_pointer at fields) (root + 1)
 
 -- a name that is read as far as a place, in the run that begins at `start`: these labels stand before, and they fit a name
 pub record Reaches (message : List ℕ) (at : ℕ) (labels : List (List ℕ)) (start here : ℕ) : Type 0 where
@@ -68,7 +68,7 @@ pub record Reaches (message : List ℕ) (at : ℕ) (labels : List (List ℕ)) (s
   pub short : length (wire_of labels) ≤ 255
 
 -- the label or pointer that begins at a place does not lie wholly in the message: there is no byte, a length byte with too few
--- behind it, or the first byte of a pointer alone
+-- after it, or the first byte of a pointer alone
 abbrev pub IsCut : List ℕ → ℕ → Type 0
 IsCut message at =
     (length message ≤ at)

@@ -21,7 +21,7 @@ pub enum NameFault {
 impl NameFault {
     ghost use Rattle.dns_name.specs.FaultWords.{name_fault};
 
-    /// The fault's name, and its place behind a space where it has one.
+    /// The fault's name, and its place after a space where it has one.
     pub fn words(&self) -> FaultWords
         ensures { result ≡ name_fault self.now }
     {

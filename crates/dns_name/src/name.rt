@@ -194,7 +194,7 @@ fn put_label(row: &mut [u8], at: usize, label: &[u8])
     put(row, at + 1, label);
 }
 
-// The bytes of both in a row, and zeros behind them.
+// The bytes of both in a row, and zeros after them.
 fn row_of(front: &[u8], back: &[u8]) -> [u8; 255]
     requires { length front.now + length back.now ≤ 255 }
     ensures { result ≡ padded 255 (front.now ++ back.now) }

@@ -36,7 +36,7 @@ impl Name {
         parse(text, origin)
     }
 
-    /// The text of the name: each label with a `.` behind it, or `.` alone for the root.
+    /// The text of the name: each label with a `.` after it, or `.` alone for the root.
     pub fn text(&self) -> NameText
         ensures { result ≡ text_of self.now }
     {

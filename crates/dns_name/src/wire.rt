@@ -14,7 +14,7 @@ impl Name {
     ghost use Rattle.dns_name.specs.Targets.{AreTargets};
     ghost use Rattle.dns_name.specs.Wire.{NameAt, NameBreaks, NameWithin, WithinBreaks};
 
-    /// The name at that place of a message, and the place behind it: behind its first pointer, or where it has none behind its
+    /// The name at that place of a message, and the place after it: after its first pointer, or where it has none after its
     /// root (RFC 1035, 4.1.4). A pointer leads to an offset less than the start of the label run that it ends.
     ///
     /// # Errors
@@ -135,7 +135,7 @@ fn cut_place(fault: WireFault) -> Option<usize>
     }
 }
 
-// The name at that place and the place behind it.
+// The name at that place and the place after it.
 fn read(message: &[u8], targets: &[u16], at: usize) -> Result<(Name, usize), WireFault>
     requires place { at ≤ length message.now }
     requires targets { AreTargets message.now targets.now }

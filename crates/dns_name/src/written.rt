@@ -27,7 +27,7 @@ fn push_byte(text: &mut NameText, byte: u8)
     }
 }
 
-/// A label and the dot behind it.
+/// A label and the dot after it.
 pub(crate) fn push_label(text: &mut NameText, label: &[u8])
     requires { length text.old + 4 * length label.now + 1 ≤ 1024 }
     ensures { text.new ≡ text.old ++ label_text label.now }

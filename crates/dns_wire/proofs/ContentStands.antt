@@ -15,7 +15,7 @@ use Rattle.dns_wire.specs.declared.content.Content.TheVariants as content
 use Rattle.dns_wire.specs.declared.form.Form.{Form}
 use Rattle.dns_wire.specs.declared.form.Form.TheVariants as form
 use Rattle.dns_wire.proofs.StandLemmas.{stands-append}
-use Rattle.dns_wire.proofs.FieldStands.{NumberIn-stands, AddressIn-stands, NameIn-stands, RuleIn-stands, TextsIn-stands, SoaIn-stands}
+use Rattle.dns_wire.proofs.FieldStands.{U16In-stands, AddressIn-stands, NameIn-stands, RuleIn-stands, TextsIn-stands, SoaIn-stands}
 
 both_true : (x y : Bool) → (x && y) ≡ true → (x ≡ true) × (y ≡ true)
 both_true true true h = (refl, refl)
@@ -118,9 +118,9 @@ srv-stands message from to priority weight port target is end h =
     let q = stands-append message (from + 2) (to_be_bytes w16 weight) (to_be_bytes w16 port ++ name) 2 refl p.1 in
     let r = stands-append message (from + 2 + 2) (to_be_bytes w16 port) name 2 refl q.1 in
     let all : from + 2 + 2 + 2 + length name ≡ to = omega arith in
-    goes (priority, from + 2) (NumberIn-stands message to from priority is.0 (omega arith) p.0) (
-    goes (weight, from + 2 + 2) (NumberIn-stands message to (from + 2) weight is.1 (omega arith) q.0) (
-    goes (port, from + 2 + 2 + 2) (NumberIn-stands message to (from + 2 + 2) port is.2 (omega arith) r.0) (
+    goes (priority, from + 2) (U16In-stands message to from priority is.0 (omega arith) p.0) (
+    goes (weight, from + 2 + 2) (U16In-stands message to (from + 2) weight is.1 (omega arith) q.0) (
+    goes (port, from + 2 + 2 + 2) (U16In-stands message to (from + 2 + 2) port is.2 (omega arith) r.0) (
     goes target (goes (target, from + 2 + 2 + 2 + length name) (NameIn-stands message to (from + 2 + 2 + 2) target is.3 (omega arith) r.1) (inl (all, refl))) refl)))
 
 mx-stands : (message : List ℕ) (from to preference : ℕ) (exchange : List (List ℕ)) → IsContent (content.Mx preference exchange) → to ≡ from + length (rdata_of (content.Mx preference exchange)) → StandsAt message from (rdata_of (content.Mx preference exchange)) → ContentIn form.Mx message from to (Ok (content.Mx preference exchange))
@@ -128,7 +128,7 @@ mx-stands message from to preference exchange is end h =
     let name = wire_of exchange in
     let p = stands-append message from (to_be_bytes w16 preference) name 2 refl h in
     let all : from + 2 + length name ≡ to = omega arith in
-    goes (preference, from + 2) (NumberIn-stands message to from preference is.0 (omega arith) p.0) (
+    goes (preference, from + 2) (U16In-stands message to from preference is.0 (omega arith) p.0) (
     goes exchange (goes (exchange, from + 2 + length name) (NameIn-stands message to (from + 2) exchange is.1 (omega arith) p.1) (inl (all, refl))) refl)
 
 -- content of its form

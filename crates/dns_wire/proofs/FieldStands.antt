@@ -5,20 +5,22 @@ use Rattle.std.specs.List.{AllByRecursion, flat_map}
 use Rattle.enum_base.specs.Stages.Then.{goes}
 use Rattle.dns_name.specs.Name.{IsName, wire_of}
 use Rattle.dns_name.specs.Wire.{StandsAt}
-use Rattle.naptr_data.specs.Rdata.{string_wire, rdata, IsRule}
-use Rattle.naptr_data.specs.Fields.{NumberIn, TextIn, NameIn, RuleIn}
-use Rattle.naptr_data.specs.declared.rule.Naptr.{Naptr}
+use Rattle.rdata_field.specs.Strings.{string_wire}
+use Rattle.naptr_rule.specs.Rdata.{rdata, IsRule}
+use Rattle.rdata_field.specs.Fields.{U16In, TextIn, NameIn, U32In, AddressIn}
+use Rattle.naptr_rule.specs.Fields.{RuleIn}
+use Rattle.naptr_rule.specs.declared.rule.Naptr.{Naptr}
 use Rattle.dns_wire.specs.Rdata.{soa_rdata}
 use Rattle.dns_wire.specs.Ranges.{IsSoa, IsText}
-use Rattle.dns_wire.specs.Contents.{LongIn, AddressIn, TextsStand, TextsIn, SoaIn}
+use Rattle.dns_wire.specs.Contents.{TextsStand, TextsIn, SoaIn}
 use Rattle.dns_wire.specs.declared.content.Soa.{Soa}
 use Rattle.dns_wire.proofs.StandLemmas.{stands-append, NameAt-wire_of}
 
-pub NumberIn-stands : (message : List ℕ) (to at value : ℕ) → value < 2 ^ 16 → at + 2 ≤ to → StandsAt message at (to_be_bytes w16 value) → NumberIn message to at (Ok (value, at + 2))
-NumberIn-stands message to at value small room h = inl (value, small, (h, room), refl)
+pub U16In-stands : (message : List ℕ) (to at value : ℕ) → value < 2 ^ 16 → at + 2 ≤ to → StandsAt message at (to_be_bytes w16 value) → U16In message to at (Ok (value, at + 2))
+U16In-stands message to at value small room h = inl (value, small, (h, room), refl)
 
-pub LongIn-stands : (message : List ℕ) (to at value : ℕ) → value < 2 ^ 32 → at + 4 ≤ to → StandsAt message at (to_be_bytes w32 value) → LongIn message to at (Ok (value, at + 4))
-LongIn-stands message to at value small room h = inl (value, small, (h, room), refl)
+pub U32In-stands : (message : List ℕ) (to at value : ℕ) → value < 2 ^ 32 → at + 4 ≤ to → StandsAt message at (to_be_bytes w32 value) → U32In message to at (Ok (value, at + 4))
+U32In-stands message to at value small room h = inl (value, small, (h, room), refl)
 
 pub AddressIn-stands : (size : ℕ) (message : List ℕ) (to at : ℕ) (bytes : List ℕ) → length bytes ≡ size → at + size ≤ to → StandsAt message at bytes → AddressIn size message to at (Ok (bytes, at + size))
 AddressIn-stands size message to at bytes is room h = inl (bytes, is, (h, omega arith), refl)
@@ -48,8 +50,8 @@ RuleIn-stands message from to rule is end h =
     let last = from + 2 + 2 + (length rule.flags + 1) + (length rule.services + 1) + (length rule.regexp + 1) in
     let all : last + length name ≡ to = sym (end ∙ ap (λ bytes. from + length bytes) parts ∙ omega (arith, length-append flags (services ++ (regexp ++ name)), length-append services (regexp ++ name), length-append regexp name)) in
     goes (record rule { replacement = [] }, last) (
-    goes (rule.order, from + 2) (NumberIn-stands message to from rule.order is.order (omega arith) a.0) (
-    goes (rule.preference, from + 2 + 2) (NumberIn-stands message to (from + 2) rule.preference is.preference (omega arith) b.0) (
+    goes (rule.order, from + 2) (U16In-stands message to from rule.order is.order (omega arith) a.0) (
+    goes (rule.preference, from + 2 + 2) (U16In-stands message to (from + 2) rule.preference is.preference (omega arith) b.0) (
     goes (rule.flags, from + 2 + 2 + (length rule.flags + 1)) (TextIn-stands message to (from + 2 + 2) rule.flags is.flags (omega arith) c.0) (
     goes (rule.services, from + 2 + 2 + (length rule.flags + 1) + (length rule.services + 1)) (TextIn-stands message to (from + 2 + 2 + (length rule.flags + 1)) rule.services is.services (omega arith) d.0) (
     goes (rule.regexp, last) (TextIn-stands message to (from + 2 + 2 + (length rule.flags + 1) + (length rule.services + 1)) rule.regexp is.regexp (omega arith) e.0) refl))))) (
@@ -87,9 +89,9 @@ SoaIn-stands message from to soa is end h =
     let all : from + length mname + length rname + 4 + 4 + 4 + 4 + 4 ≡ to = sym (end ∙ ap (λ bytes. from + length bytes) parts ∙ omega (arith, length-append mname (rname ++ (serial ++ (refresh ++ (retry ++ (expire ++ minimum))))), length-append rname (serial ++ (refresh ++ (retry ++ (expire ++ minimum)))))) in
     goes (soa.mname, from + length mname) (NameIn-stands message to from soa.mname is.mname (omega arith) a.0) (
     goes (soa.rname, from + length mname + length rname) (NameIn-stands message to (from + length mname) soa.rname is.rname (omega arith) b.0) (
-    goes (soa.serial, from + length mname + length rname + 4) (LongIn-stands message to (from + length mname + length rname) soa.serial is.serial (omega arith) c.0) (
-    goes (soa.refresh, from + length mname + length rname + 4 + 4) (LongIn-stands message to (from + length mname + length rname + 4) soa.refresh is.refresh (omega arith) d.0) (
-    goes (soa.retry, from + length mname + length rname + 4 + 4 + 4) (LongIn-stands message to (from + length mname + length rname + 4 + 4) soa.retry is.retry (omega arith) e.0) (
-    goes (soa.expire, from + length mname + length rname + 4 + 4 + 4 + 4) (LongIn-stands message to (from + length mname + length rname + 4 + 4 + 4) soa.expire is.expire (omega arith) f.0) (
-    goes (soa.minimum, from + length mname + length rname + 4 + 4 + 4 + 4 + 4) (LongIn-stands message to (from + length mname + length rname + 4 + 4 + 4 + 4) soa.minimum is.minimum (omega arith) f.1)
+    goes (soa.serial, from + length mname + length rname + 4) (U32In-stands message to (from + length mname + length rname) soa.serial is.serial (omega arith) c.0) (
+    goes (soa.refresh, from + length mname + length rname + 4 + 4) (U32In-stands message to (from + length mname + length rname + 4) soa.refresh is.refresh (omega arith) d.0) (
+    goes (soa.retry, from + length mname + length rname + 4 + 4 + 4) (U32In-stands message to (from + length mname + length rname + 4 + 4) soa.retry is.retry (omega arith) e.0) (
+    goes (soa.expire, from + length mname + length rname + 4 + 4 + 4 + 4) (U32In-stands message to (from + length mname + length rname + 4 + 4 + 4) soa.expire is.expire (omega arith) f.0) (
+    goes (soa.minimum, from + length mname + length rname + 4 + 4 + 4 + 4 + 4) (U32In-stands message to (from + length mname + length rname + 4 + 4 + 4 + 4) soa.minimum is.minimum (omega arith) f.1)
     (ap (λ place. Ok (soa, place)) (sym all))))))))

@@ -6,7 +6,7 @@ use Rattle.std.specs.Int.{w16, to_be_bytes, byte_at}
 use Rattle.byteorder.specs.Endian.{big_number}
 use Rattle.dns_name.specs.Name.{IsByte}
 use Rattle.dns_name.proofs.NameLemmas.{AllByRecursion-append}
-use Rattle.naptr_data.proofs.FieldLemmas.{by_size}
+use Rattle.rdata_field.proofs.PlaceLemmas.{by_size}
 use Rattle.dns_wire.specs.Framing.{FitsFrame, framed, framed_all, Stream, stream_bytes, BeginsWith, IsNoWhole, Gives, HasCut, OneCut, SomeCut}
 use Rattle.dns_wire.specs.Frames.{messages_within, messages_of, cut_at, AreWhole, IsFrontWhole}
 
@@ -83,59 +83,59 @@ IsNoWhole-short bytes short message after h =
     let size : length bytes ≡ length (framed message ++ after) = ap length h.parts in
     absurd (omega arith)
 
--- too few bytes behind their length
+-- too few bytes after their length
 pub IsNoWhole-cut : (bytes : List ℕ) (size : ℕ) → size ≡ big_number 2 bytes → 2 ≤ length bytes → length bytes < 2 + size → IsNoWhole bytes
 IsNoWhole-cut [] size is room cut message after h = absurd (omega arith)
 IsNoWhole-cut (high ∷ []) size is room cut message after h = absurd (omega arith)
-IsNoWhole-cut (high ∷ low ∷ behind) size is room cut message after h =
-    let parts : high ∷ low ∷ behind ≡ framed message ++ after = h.parts in
+IsNoWhole-cut (high ∷ low ∷ tail) size is room cut message after h =
+    let parts : high ∷ low ∷ tail ≡ framed message ++ after = h.parts in
     let first : high ≡ byte_at 1 (length message) = cc parts in
     let second : low ≡ byte_at 0 (length message) = cc parts in
-    let rest : behind ≡ message ++ after = cc parts in
+    let rest : tail ≡ message ++ after = cc parts in
     let told : 256 * high + low ≡ length message = ap (λ b. 256 * b + low) first ∙ ap (λ b. 256 * byte_at 1 (length message) + b) second ∙ of_two_bytes (length message) h.fits in
-    let all : length behind ≡ length message + length after = ap length rest ∙ length-append message after in
+    let all : length tail ≡ length message + length after = ap length rest ∙ length-append message after in
     let number : size ≡ 256 * high + low = is ∙ omega arith in
     absurd (omega arith)
 
--- a message behind its length
-begins_with : (high low size : ℕ) (behind : List ℕ) → high < 256 → low < 256 → size ≡ 256 * high + low → size ≤ length behind → BeginsWith (high ∷ low ∷ behind) (take size behind) (drop size behind)
-begins_with high low size behind h l number room =
-    let whole : length (take size behind) ≡ size = length-take size behind ∙ omega arith in
+-- a message after its length
+begins_with : (high low size : ℕ) (tail : List ℕ) → high < 256 → low < 256 → size ≡ 256 * high + low → size ≤ length tail → BeginsWith (high ∷ low ∷ tail) (take size tail) (drop size tail)
+begins_with high low size tail h l number room =
+    let whole : length (take size tail) ≡ size = length-take size tail ∙ omega arith in
     record {
       fits = omega arith;
       parts =
-          ap (λ x. high ∷ low ∷ x) (sym (take-append-drop size behind))
-          ∙ ap (λ x. x ++ (take size behind ++ drop size behind)) (sym (two_bytes high low h l))
-          ∙ ap (λ k. to_be_bytes w16 k ++ (take size behind ++ drop size behind)) (sym number ∙ sym whole)
-          ∙ sym (append_assoc (to_be_bytes w16 (length (take size behind))) (take size behind) (drop size behind));
+          ap (λ x. high ∷ low ∷ x) (sym (take-append-drop size tail))
+          ∙ ap (λ x. x ++ (take size tail ++ drop size tail)) (sym (two_bytes high low h l))
+          ∙ ap (λ k. to_be_bytes w16 k ++ (take size tail ++ drop size tail)) (sym number ∙ sym whole)
+          ∙ sym (append_assoc (to_be_bytes w16 (length (take size tail))) (take size tail) (drop size tail));
     }
 
-each_behind : (bytes : List ℕ) (n : ℕ) → AllByRecursion IsByte bytes → AllByRecursion IsByte (drop n bytes)
-each_behind bytes zero each = each
-each_behind [] (suc n) each = tt
-each_behind (b ∷ bytes) (suc n) each = each_behind bytes n each.1
+each_after : (bytes : List ℕ) (n : ℕ) → AllByRecursion IsByte bytes → AllByRecursion IsByte (drop n bytes)
+each_after bytes zero each = each
+each_after [] (suc n) each = tt
+each_after (b ∷ bytes) (suc n) each = each_after bytes n each.1
 
 -- a stream with a length at its front has a cut, if each shorter one has
-cut_behind : (more high low size : ℕ) (behind : List ℕ) → ((bytes : List ℕ) → AllByRecursion IsByte bytes → length bytes ≤ more → HasCut bytes) → AllByRecursion IsByte (high ∷ low ∷ behind) → length behind ≤ more → size ≡ 256 * high + low → (size ≤ length behind) ⊎ (length behind < size) → HasCut (high ∷ low ∷ behind)
-cut_behind more high low size behind on each room number (inl fits) =
-    let first = begins_with high low size behind each.0 each.1.0 number fits in
-    let left = on (drop size behind) (each_behind behind size each.1.1) (omega (arith, length-drop size behind)) in
+cut_after : (more high low size : ℕ) (tail : List ℕ) → ((bytes : List ℕ) → AllByRecursion IsByte bytes → length bytes ≤ more → HasCut bytes) → AllByRecursion IsByte (high ∷ low ∷ tail) → length tail ≤ more → size ≡ 256 * high + low → (size ≤ length tail) ⊎ (length tail < size) → HasCut (high ∷ low ∷ tail)
+cut_after more high low size tail on each room number (inl fits) =
+    let first = begins_with high low size tail each.0 each.1.0 number fits in
+    let left = on (drop size tail) (each_after tail size each.1.1) (omega (arith, length-drop size tail)) in
     record {
-      messages = take size behind ∷ left.messages;
+      messages = take size tail ∷ left.messages;
       rest = left.rest;
       cut = record {
-        parts = first.parts ∙ ap (λ x. framed (take size behind) ++ x) left.cut.parts ∙ sym (append_assoc (framed (take size behind)) (framed_all left.messages) left.rest);
+        parts = first.parts ∙ ap (λ x. framed (take size tail) ++ x) left.cut.parts ∙ sym (append_assoc (framed (take size tail)) (framed_all left.messages) left.rest);
         fit = (first.fits, left.cut.fit);
         end = left.cut.end;
       };
     }
-cut_behind more high low size behind on each room number (inr cut) = record {
+cut_after more high low size tail on each room number (inr cut) = record {
   messages = [];
-  rest = high ∷ low ∷ behind;
+  rest = high ∷ low ∷ tail;
   cut = record {
     parts = refl;
     fit = tt;
-    end = IsNoWhole-cut (high ∷ low ∷ behind) size (number ∙ omega arith) (omega arith) (omega arith);
+    end = IsNoWhole-cut (high ∷ low ∷ tail) size (number ∙ omega arith) (omega arith) (omega arith);
   };
 }
 
@@ -145,9 +145,9 @@ cut_short bytes few = record { messages = []; rest = bytes; cut = record { parts
 cut_within : (more : ℕ) (bytes : List ℕ) → AllByRecursion IsByte bytes → length bytes ≤ more → HasCut bytes
 cut_within more [] each room = cut_short [] (omega arith)
 cut_within more (high ∷ []) each room = cut_short (high ∷ []) (omega arith)
-cut_within zero (high ∷ low ∷ behind) each room = absurd (omega arith)
-cut_within (suc more) (high ∷ low ∷ behind) each room =
-    cut_behind more high low (256 * high + low) behind (λ bytes each room. cut_within more bytes each room) each (omega arith) refl (by_size (256 * high + low) (length behind))
+cut_within zero (high ∷ low ∷ tail) each room = absurd (omega arith)
+cut_within (suc more) (high ∷ low ∷ tail) each room =
+    cut_after more high low (256 * high + low) tail (λ bytes each room. cut_within more bytes each room) each (omega arith) refl (by_size (256 * high + low) (length tail))
 
 -- every stream has a cut
 pub some_cut : SomeCut
@@ -185,7 +185,7 @@ pub record HasGiven (bytes : List ℕ) (place next : ℕ) : Type 0 where
   pub place_is : place + 2 ≡ length (framed_all (messages_of (take place bytes))) + 2
   pub within : next ≤ length (stream_bytes (cut_at bytes next))
 
--- the same by the message and what is behind it
+-- the same by the message and what is after it
 record Step (bytes : List ℕ) (place next : ℕ) (message after : List ℕ) : Type 0 where
   whole : IsFrontWhole bytes next
   given : messages_of (take next bytes) ≡ messages_of (take place bytes) ++ message ∷ []

@@ -1,7 +1,6 @@
 pub mod ContentLemmas
 pub mod ContentStands
 pub mod EncodeLemmas
-pub mod FieldLemmas
 pub mod FieldStands
 pub mod FrameLemmas
 pub mod ItemLemmas

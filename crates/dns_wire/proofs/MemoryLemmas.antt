@@ -4,12 +4,12 @@ use Rattle.enum_base.specs.Stages.{Then}
 use Rattle.enum_base.specs.Stages.Then.{goes, stops}
 use Rattle.dns_name.specs.declared.wire_fault.WireFault.{WireFault}
 use Rattle.dns_name.specs.declared.wire_fault.WireFault.TheVariants as wire
-use Rattle.naptr_data.specs.declared.in_fault.InFault.{InFault}
-use Rattle.naptr_data.specs.declared.in_fault.InFault.TheVariants as rdata
+use Rattle.rdata_field.specs.declared.in_fault.InFault.{InFault}
+use Rattle.rdata_field.specs.declared.in_fault.InFault.TheVariants as rdata
 use Rattle.dns_wire.specs.Contents.{ContentIn}
 use Rattle.dns_wire.specs.Forms.{form_of}
 use Rattle.dns_wire.specs.DecodeFaults.{of_name, of_rdata}
-use Rattle.dns_wire.specs.Message.{NumberAt, LongAt, NameRead, QuestionAt, LengthAt, RecordAt, ItemsAt, HeaderAt, MessageIs}
+use Rattle.dns_wire.specs.Message.{U16At, U32At, NameRead, QuestionAt, LengthAt, RecordAt, ItemsAt, HeaderAt, MessageIs}
 use Rattle.dns_wire.specs.Outcome.{Told}
 use Rattle.dns_wire.specs.declared.decode_fault.DecodeFault.{DecodeFault}
 use Rattle.dns_wire.specs.declared.decode_fault.DecodeFault.TheVariants.{Memory}
@@ -28,17 +28,17 @@ free-then {A} {B} One Next one next = record { lacks = lacks }
 free-ok : {A : Type 0} (value : A) → IsFree (λ result. result ≡ Ok value)
 free-ok value = record { lacks = λ is. absurd cc }
 
-free-number : (message : List ℕ) (at : ℕ) → IsFree (NumberAt message at)
+free-number : (message : List ℕ) (at : ℕ) → IsFree (U16At message at)
 free-number message at = record { lacks = lacks }
   where
-    lacks : ¬ NumberAt message at (Err Memory)
+    lacks : ¬ U16At message at (Err Memory)
     lacks (inl (value, small, there, is)) = absurd cc
     lacks (inr (short, is)) = absurd cc
 
-free-long : (message : List ℕ) (at : ℕ) → IsFree (LongAt message at)
+free-long : (message : List ℕ) (at : ℕ) → IsFree (U32At message at)
 free-long message at = record { lacks = lacks }
   where
-    lacks : ¬ LongAt message at (Err Memory)
+    lacks : ¬ U32At message at (Err Memory)
     lacks (inl (value, small, there, is)) = absurd cc
     lacks (inr (short, is)) = absurd cc
 
@@ -76,7 +76,7 @@ free-length message at = record { lacks = lacks }
     lacks : ¬ LengthAt message at (Err Memory)
     lacks (goes size h (inl (room, is))) = absurd cc
     lacks (goes size h (inr (past, is))) = absurd cc
-    lacks (stops fault h is) = let same : fault ≡ Memory = cc in (free-number message at).lacks (subst (λ f. NumberAt message at (Err f)) same h)
+    lacks (stops fault h is) = let same : fault ≡ Memory = cc in (free-number message at).lacks (subst (λ f. U16At message at (Err f)) same h)
 
 free-record : (message : List ℕ) (at : ℕ) → IsFree (RecordAt message at)
 free-record message at =

@@ -4,7 +4,7 @@ use Rattle.std.proofs.lemmas.Bool.{le-leb}
 use Rattle.std.specs.Result.{IsErrAnd}
 use Rattle.enum_base.specs.Stages.Then.{goes, stops}
 use Rattle.dns_wire.specs.Counts.{is_counted, are_counted}
-use Rattle.dns_wire.specs.Message.{NumberAt, HeaderAt, ItemsAt, QuestionAt, RecordAt, MessageIs}
+use Rattle.dns_wire.specs.Message.{U16At, HeaderAt, ItemsAt, QuestionAt, RecordAt, MessageIs}
 use Rattle.dns_wire.specs.Outcome.{OrMemory}
 use Rattle.dns_wire.specs.declared.question.Question.{Question}
 use Rattle.dns_wire.specs.declared.record.Record.{Record}
@@ -73,7 +73,7 @@ spells bytes header questions answers authority additional fits s m low high =
     inl (goes header s.header_read (goes questions (sure (Questions bytes header) questions s.questions_read) (goes answers (sure (Answers bytes header questions.1) answers s.answers_read) (goes authority (sure (Authority bytes header answers.1) authority s.authority_read) (goes additional (sure (Additional bytes header authority.1) additional m) (inl (omega arith, fits, refl)))))))
 
 -- the counts of a header are numbers of 16 bits
-pub number_small : (message : List ℕ) (at : ℕ) (read : ℕ × ℕ) → NumberAt message at (Ok read) → read.0 ≤ 65535
+pub number_small : (message : List ℕ) (at : ℕ) (read : ℕ × ℕ) → U16At message at (Ok read) → read.0 ≤ 65535
 number_small message at read (inl (value, small, there, is)) =
     let pair : ◌≡◌ {A = ℕ × ℕ} read (value, at + 2) = cc in
     let same = ap (λ (x : ℕ × ℕ). x.0) pair in omega arith

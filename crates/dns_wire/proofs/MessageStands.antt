@@ -10,7 +10,7 @@ use Rattle.dns_name.proofs.ReadLemmas.{stands}
 use Rattle.dns_wire.specs.Counts.{is_counted}
 use Rattle.dns_wire.specs.Rdata.{rdata_of}
 use Rattle.dns_wire.specs.Ranges.{IsQuestion, IsRecord, IsMessage}
-use Rattle.dns_wire.specs.Message.{NumberAt, LongAt, NameRead, QuestionAt, RecordAt, ItemsAt, HeaderAt}
+use Rattle.dns_wire.specs.Message.{U16At, U32At, NameRead, QuestionAt, RecordAt, ItemsAt, HeaderAt}
 use Rattle.dns_wire.specs.Encoding.{header_wire, question_wire, record_wire, counts_of, message_wire}
 use Rattle.dns_wire.specs.Laws.{ReadsBack}
 use Rattle.dns_wire.specs.declared.question.Question.{Question}
@@ -19,11 +19,11 @@ use Rattle.dns_wire.specs.declared.message.Message.{Message}
 use Rattle.dns_wire.proofs.StandLemmas.{stands-whole, stands-append, NameAt-wire_of}
 use Rattle.dns_wire.proofs.ContentStands.{ContentIn-stands}
 
-NumberAt-stands : (message : List ℕ) (at value : ℕ) → value < 2 ^ 16 → StandsAt message at (to_be_bytes w16 value) → NumberAt message at (Ok (value, at + 2))
-NumberAt-stands message at value small h = inl (value, small, (h, (stands message at _ _ h).inside), refl)
+U16At-stands : (message : List ℕ) (at value : ℕ) → value < 2 ^ 16 → StandsAt message at (to_be_bytes w16 value) → U16At message at (Ok (value, at + 2))
+U16At-stands message at value small h = inl (value, small, (h, (stands message at _ _ h).inside), refl)
 
-LongAt-stands : (message : List ℕ) (at value : ℕ) → value < 2 ^ 32 → StandsAt message at (to_be_bytes w32 value) → LongAt message at (Ok (value, at + 4))
-LongAt-stands message at value small h = inl (value, small, (h, (stands message at _ _ h).inside), refl)
+U32At-stands : (message : List ℕ) (at value : ℕ) → value < 2 ^ 32 → StandsAt message at (to_be_bytes w32 value) → U32At message at (Ok (value, at + 4))
+U32At-stands message at value small h = inl (value, small, (h, (stands message at _ _ h).inside), refl)
 
 NameRead-stands : (message : List ℕ) (at : ℕ) (labels : List (List ℕ)) → IsName labels → StandsAt message at (wire_of labels) → NameRead message at (Ok (labels, at + length (wire_of labels)))
 NameRead-stands message at labels name h = inl (labels, at + length (wire_of labels), NameAt-wire_of message at labels name h, refl)
@@ -39,8 +39,8 @@ QuestionAt-stands message at question is h =
     let b = stands-append message (at + length name) kind class 2 refl a.1 in
     let end : at + length (question_wire question) ≡ at + length name + 2 + 2 = ap (λ bytes. at + length bytes) parts ∙ omega (arith, length-append name (kind ++ class)) in
     goes (question.name, at + length name) (NameRead-stands message at question.name is.name a.0) (
-    goes (question.kind, at + length name + 2) (NumberAt-stands message (at + length name) question.kind is.kind b.0) (
-    goes (question.class, at + length name + 2 + 2) (NumberAt-stands message (at + length name + 2) question.class is.class b.1)
+    goes (question.kind, at + length name + 2) (U16At-stands message (at + length name) question.kind is.kind b.0) (
+    goes (question.class, at + length name + 2 + 2) (U16At-stands message (at + length name + 2) question.class is.class b.1)
     (ap (λ place. Ok (question, place)) end)))
 
 RecordAt-stands : (message : List ℕ) → length message ≤ 65_535 → (at : ℕ) (one : Record) → IsRecord one → StandsAt message at (record_wire one) → RecordAt message at (Ok (one, at + length (record_wire one)))
@@ -64,10 +64,10 @@ RecordAt-stands message short at one is h =
     let small : length rdata < 2 ^ 16 = omega arith in
     let end : at + length (record_wire one) ≡ place + 2 + length rdata = ap (λ bytes. at + length bytes) parts ∙ omega (arith, length-append owner (kind ++ (class ++ (ttl ++ (size ++ rdata))))) in
     goes (one.owner, at + length owner) (NameRead-stands message at one.owner is.owner a.0) (
-    goes (one.kind, at + length owner + 2) (NumberAt-stands message (at + length owner) one.kind is.kind b.0) (
-    goes (one.class, at + length owner + 2 + 2) (NumberAt-stands message (at + length owner + 2) one.class is.class c.0) (
-    goes (one.ttl, place) (LongAt-stands message (at + length owner + 2 + 2) one.ttl is.ttl d.0) (
-    goes (place + 2 + length rdata, place + 2) (goes (length rdata, place + 2) (NumberAt-stands message place (length rdata) small e.0) (inl (room, refl))) (
+    goes (one.kind, at + length owner + 2) (U16At-stands message (at + length owner) one.kind is.kind b.0) (
+    goes (one.class, at + length owner + 2 + 2) (U16At-stands message (at + length owner + 2) one.class is.class c.0) (
+    goes (one.ttl, place) (U32At-stands message (at + length owner + 2 + 2) one.ttl is.ttl d.0) (
+    goes (place + 2 + length rdata, place + 2) (goes (length rdata, place + 2) (U16At-stands message place (length rdata) small e.0) (inl (room, refl))) (
     goes one.content (inl (one.content, ContentIn-stands message (place + 2) (place + 2 + length rdata) one.kind one.class one.content is.content one.belongs refl e.1, refl))
     (one.belongs, ap (λ n. Ok (one, n)) end))))))
 
@@ -126,12 +126,12 @@ HeaderAt-stands message is bytes rest whole =
     let size : length bytes ≡ 12 + length rest = ap length parts ∙ omega arith in (
       inl (
         omega arith,
-        goes (message.header.id, 2) (NumberAt-stands bytes 0 message.header.id is.header.id a.0) (
-            goes (message.header.bits, 4) (NumberAt-stands bytes 2 message.header.bits is.header.bits b.0) (
-            goes (counts.questions, 6) (NumberAt-stands bytes 4 counts.questions fit.questions c.0) (
-            goes (counts.answers, 8) (NumberAt-stands bytes 6 counts.answers fit.answers d.0) (
-            goes (counts.authority, 10) (NumberAt-stands bytes 8 counts.authority fit.authority e.0) (
-            goes (counts.additional, 12) (NumberAt-stands bytes 10 counts.additional fit.additional f.0) refl))))),
+        goes (message.header.id, 2) (U16At-stands bytes 0 message.header.id is.header.id a.0) (
+            goes (message.header.bits, 4) (U16At-stands bytes 2 message.header.bits is.header.bits b.0) (
+            goes (counts.questions, 6) (U16At-stands bytes 4 counts.questions fit.questions c.0) (
+            goes (counts.answers, 8) (U16At-stands bytes 6 counts.answers fit.answers d.0) (
+            goes (counts.authority, 10) (U16At-stands bytes 8 counts.authority fit.authority e.0) (
+            goes (counts.additional, 12) (U16At-stands bytes 10 counts.additional fit.additional f.0) refl))))),
       ),
       f.1,
     )

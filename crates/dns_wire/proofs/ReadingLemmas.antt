@@ -3,17 +3,18 @@ use Rattle.std.proofs.Common.{◌≡◌, ◌⊎◌, ℕ, zero, suc, ◌+◌, ◌
 use Rattle.std.proofs.Math.Bool.{Bool-set}
 use Rattle.std.specs.List.{AllByRecursion}
 use Rattle.enum_base.specs.Stages.Then.{goes, stops}
-use Rattle.enum_base.proofs.StageLaws.{IsSingle, IsTotal, IsSingle-is, IsTotal-is, IsSingle-then, IsTotal-then}
+use Rattle.enum_base.proofs.StageLemmas.{IsSingle, IsTotal, IsSingle-is, IsTotal-is, IsSingle-then, IsTotal-then}
 use Rattle.dns_name.specs.Name.{IsByte}
 use Rattle.dns_name.proofs.FoundLemmas.{Found, name_or_fault}
 use Rattle.dns_name.proofs.ReadLemmas.{one_name, one_fault, not_both}
-use Rattle.naptr_data.proofs.FieldLemmas.{by_size, IsSingle-number, IsTotal-number}
+use Rattle.rdata_field.proofs.PlaceLemmas.{by_size}
+use Rattle.rdata_field.proofs.NumberLemmas.{IsSingle-u16, IsTotal-u16, IsSingle-u32, IsTotal-u32}
 use Rattle.dns_wire.specs.Counts.{are_counted}
 use Rattle.dns_wire.specs.Kinds.{belongs}
 use Rattle.dns_wire.specs.Forms.{form_of}
 use Rattle.dns_wire.specs.Contents.{ContentIn}
 use Rattle.dns_wire.specs.DecodeFaults.{of_name, of_rdata}
-use Rattle.dns_wire.specs.Message.{NumberAt, NameRead, QuestionAt, LengthAt, RecordAt, ItemsAt, HeaderNumbers, HeaderAt, MessageIs}
+use Rattle.dns_wire.specs.Message.{U16At, NameRead, QuestionAt, LengthAt, RecordAt, ItemsAt, HeaderNumbers, HeaderAt, MessageIs}
 use Rattle.dns_wire.specs.Outcome.{Told}
 use Rattle.dns_wire.specs.declared.content.Content.{Content}
 use Rattle.dns_wire.specs.declared.form.Form.{Form}
@@ -25,7 +26,6 @@ use Rattle.dns_wire.specs.declared.message.Message.{Message}
 use Rattle.dns_wire.specs.declared.decode_fault.DecodeFault.{DecodeFault}
 use Rattle.dns_wire.specs.declared.decode_fault.DecodeFault.TheVariants.{Short, RdataLength, Trailing}
 use Rattle.dns_wire.proofs.ContentLemmas.{IsSingle-content, IsTotal-content}
-use Rattle.dns_wire.proofs.FieldLemmas.{IsSingle-long, IsTotal-long}
 use Rattle.dns_wire.proofs.MessageLemmas.{are_few}
 use Rattle.dns_wire.proofs.RecordLemmas.{form_fits, belongs_of, length_span}
 use Rattle.dns_wire.proofs.StepLemmas.{then_value}
@@ -71,16 +71,16 @@ IsTotal-name message at all = by_found (name_or_fault message at all)
 IsSingle-question : (message : List ℕ) (at : ℕ) → IsSingle (QuestionAt message at)
 IsSingle-question message at =
     IsSingle-then _ _ (IsSingle-name message at) (λ name.
-    IsSingle-then _ _ (IsSingle-number Short message (length message) name.1) (λ kind.
-    IsSingle-then _ _ (IsSingle-number Short message (length message) kind.1) (λ class. IsSingle-is _)))
+    IsSingle-then _ _ (IsSingle-u16 Short message (length message) name.1) (λ kind.
+    IsSingle-then _ _ (IsSingle-u16 Short message (length message) kind.1) (λ class. IsSingle-is _)))
 
 IsTotal-question : (message : List ℕ) (at : ℕ) → AllByRecursion IsByte message → IsTotal (QuestionAt message at)
 IsTotal-question message at all =
     IsTotal-then _ _ (IsTotal-name message at all) (λ name h1.
-    IsTotal-then _ _ (IsTotal-number Short message (length message) name.1 all (omega arith)) (λ kind h2.
-    IsTotal-then _ _ (IsTotal-number Short message (length message) kind.1 all (omega arith)) (λ class h3. IsTotal-is _)))
+    IsTotal-then _ _ (IsTotal-u16 Short message (length message) name.1 all (omega arith)) (λ kind h2.
+    IsTotal-then _ _ (IsTotal-u16 Short message (length message) kind.1 all (omega arith)) (λ class h3. IsTotal-is _)))
 
-number-within : (message : List ℕ) (at : ℕ) (read : ℕ × ℕ) → NumberAt message at (Ok read) → read.1 ≤ length message
+number-within : (message : List ℕ) (at : ℕ) (read : ℕ × ℕ) → U16At message at (Ok read) → read.1 ≤ length message
 number-within message at read (inl (value, small, (there, low), is)) =
     let both : ◌≡◌ {A = ℕ × ℕ} read (value, at + 2) = cc in
     let end = ap (λ (x : ℕ × ℕ). x.1) both in
@@ -101,7 +101,7 @@ question-within message at read h =
 
 -- the length of RDATA
 IsSingle-length : (message : List ℕ) (at : ℕ) → IsSingle (LengthAt message at)
-IsSingle-length message at = IsSingle-then _ _ (IsSingle-number Short message (length message) at) (λ size. record { same = same size })
+IsSingle-length message at = IsSingle-then _ _ (IsSingle-u16 Short message (length message) at) (λ size. record { same = same size })
   where
     Ends : ℕ × ℕ → Result (ℕ × ℕ) DecodeFault → Type 0
     Ends size all =
@@ -115,7 +115,7 @@ IsSingle-length message at = IsSingle-then _ _ (IsSingle-number Short message (l
     same size r s (inr (past, is)) (inr (past', is')) = is ∙ sym is'
 
 IsTotal-length : (message : List ℕ) (at : ℕ) → AllByRecursion IsByte message → IsTotal (LengthAt message at)
-IsTotal-length message at all = IsTotal-then _ _ (IsTotal-number Short message (length message) at all (omega arith)) (λ size h. by_room size (by_size (size.1 + size.0) (length message)))
+IsTotal-length message at all = IsTotal-then _ _ (IsTotal-u16 Short message (length message) at all (omega arith)) (λ size h. by_room size (by_size (size.1 + size.0) (length message)))
   where
     Ends : ℕ × ℕ → Result (ℕ × ℕ) DecodeFault → Type 0
     Ends size all =
@@ -137,9 +137,9 @@ IsSingle-made owner kind class ttl what to = record { same = λ r s h k. h.1 ∙
 pub IsSingle-record : (message : List ℕ) (at : ℕ) → IsSingle (RecordAt message at)
 IsSingle-record message at =
     IsSingle-then _ _ (IsSingle-name message at) (λ owner.
-    IsSingle-then _ _ (IsSingle-number Short message (length message) owner.1) (λ kind.
-    IsSingle-then _ _ (IsSingle-number Short message (length message) kind.1) (λ class.
-    IsSingle-then _ _ (IsSingle-long Short message (length message) class.1) (λ ttl.
+    IsSingle-then _ _ (IsSingle-u16 Short message (length message) owner.1) (λ kind.
+    IsSingle-then _ _ (IsSingle-u16 Short message (length message) kind.1) (λ class.
+    IsSingle-then _ _ (IsSingle-u32 Short message (length message) class.1) (λ ttl.
     IsSingle-then _ _ (IsSingle-length message ttl.1) (λ rdata.
     IsSingle-then _ _ (IsSingle-told of_rdata (ContentIn (form_of kind.0 class.0) message rdata.1 rdata.0) (IsSingle-content (form_of kind.0 class.0) message rdata.1 rdata.0)) (λ what.
     IsSingle-made owner.0 kind.0 class.0 ttl.0 what rdata.0))))))
@@ -151,9 +151,9 @@ told_content of message from to what (inr (fault, h, is)) = absurd cc
 pub IsTotal-record : (message : List ℕ) (at : ℕ) → AllByRecursion IsByte message → IsTotal (RecordAt message at)
 IsTotal-record message at all =
     IsTotal-then _ _ (IsTotal-name message at all) (λ owner h1.
-    IsTotal-then _ _ (IsTotal-number Short message (length message) owner.1 all (omega arith)) (λ kind h2.
-    IsTotal-then _ _ (IsTotal-number Short message (length message) kind.1 all (omega arith)) (λ class h3.
-    IsTotal-then _ _ (IsTotal-long Short message (length message) class.1 all (omega arith)) (λ ttl h4.
+    IsTotal-then _ _ (IsTotal-u16 Short message (length message) owner.1 all (omega arith)) (λ kind h2.
+    IsTotal-then _ _ (IsTotal-u16 Short message (length message) kind.1 all (omega arith)) (λ class h3.
+    IsTotal-then _ _ (IsTotal-u32 Short message (length message) class.1 all (omega arith)) (λ ttl h4.
     IsTotal-then _ _ (IsTotal-length message ttl.1 all) (λ rdata h5.
     let span = length_span message ttl.1 rdata h5 in
     IsTotal-then _ _ (IsTotal-told of_rdata (ContentIn (form_of kind.0 class.0) message rdata.1 rdata.0) (IsTotal-content (form_of kind.0 class.0) message rdata.1 rdata.0 all span.inside span.size)) (λ what h6.
@@ -197,21 +197,21 @@ items-within one limit each (suc n) at low read (stops fault h is) = absurd cc
 -- headers
 IsSingle-six : (message : List ℕ) → IsSingle (HeaderNumbers message)
 IsSingle-six message =
-    IsSingle-then _ _ (IsSingle-number Short message (length message) 0) (λ id.
-    IsSingle-then _ _ (IsSingle-number Short message (length message) id.1) (λ bits.
-    IsSingle-then _ _ (IsSingle-number Short message (length message) bits.1) (λ questions.
-    IsSingle-then _ _ (IsSingle-number Short message (length message) questions.1) (λ answers.
-    IsSingle-then _ _ (IsSingle-number Short message (length message) answers.1) (λ authority.
-    IsSingle-then _ _ (IsSingle-number Short message (length message) authority.1) (λ additional. IsSingle-is _))))))
+    IsSingle-then _ _ (IsSingle-u16 Short message (length message) 0) (λ id.
+    IsSingle-then _ _ (IsSingle-u16 Short message (length message) id.1) (λ bits.
+    IsSingle-then _ _ (IsSingle-u16 Short message (length message) bits.1) (λ questions.
+    IsSingle-then _ _ (IsSingle-u16 Short message (length message) questions.1) (λ answers.
+    IsSingle-then _ _ (IsSingle-u16 Short message (length message) answers.1) (λ authority.
+    IsSingle-then _ _ (IsSingle-u16 Short message (length message) authority.1) (λ additional. IsSingle-is _))))))
 
 IsTotal-six : (message : List ℕ) → AllByRecursion IsByte message → IsTotal (HeaderNumbers message)
 IsTotal-six message all =
-    IsTotal-then _ _ (IsTotal-number Short message (length message) 0 all (omega arith)) (λ id h1.
-    IsTotal-then _ _ (IsTotal-number Short message (length message) id.1 all (omega arith)) (λ bits h2.
-    IsTotal-then _ _ (IsTotal-number Short message (length message) bits.1 all (omega arith)) (λ questions h3.
-    IsTotal-then _ _ (IsTotal-number Short message (length message) questions.1 all (omega arith)) (λ answers h4.
-    IsTotal-then _ _ (IsTotal-number Short message (length message) answers.1 all (omega arith)) (λ authority h5.
-    IsTotal-then _ _ (IsTotal-number Short message (length message) authority.1 all (omega arith)) (λ additional h6. IsTotal-is _))))))
+    IsTotal-then _ _ (IsTotal-u16 Short message (length message) 0 all (omega arith)) (λ id h1.
+    IsTotal-then _ _ (IsTotal-u16 Short message (length message) id.1 all (omega arith)) (λ bits h2.
+    IsTotal-then _ _ (IsTotal-u16 Short message (length message) bits.1 all (omega arith)) (λ questions h3.
+    IsTotal-then _ _ (IsTotal-u16 Short message (length message) questions.1 all (omega arith)) (λ answers h4.
+    IsTotal-then _ _ (IsTotal-u16 Short message (length message) answers.1 all (omega arith)) (λ authority h5.
+    IsTotal-then _ _ (IsTotal-u16 Short message (length message) authority.1 all (omega arith)) (λ additional h6. IsTotal-is _))))))
 
 IsSingle-header : (message : List ℕ) → IsSingle (HeaderAt message)
 IsSingle-header message = record { same = same }

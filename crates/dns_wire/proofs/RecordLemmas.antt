@@ -4,12 +4,13 @@ use Rattle.std.proofs.lemmas.Bool.{lt-ltb, le-leb}
 use Rattle.std.proofs.lemmas.List.{length-take}
 use Rattle.std.specs.Result.{IsErrAnd}
 use Rattle.enum_base.specs.Stages.Then.{goes, stops}
-use Rattle.naptr_data.specs.Fields.{NameIn, RuleIn}
+use Rattle.rdata_field.specs.Fields.{NameIn, AddressIn}
+use Rattle.naptr_rule.specs.Fields.{RuleIn}
 use Rattle.dns_wire.specs.Kinds.{internet, a, ns, cname, soa, ptr, mx, txt, aaaa, srv, naptr, opt, is_read, belongs}
 use Rattle.dns_wire.specs.Forms.{internet_form, form_of}
-use Rattle.dns_wire.specs.Contents.{AddressIn, SoaIn, LastIn, TextsIn, ContentIn, bytes_between}
+use Rattle.dns_wire.specs.Contents.{SoaIn, LastIn, TextsIn, ContentIn, bytes_between}
 use Rattle.dns_wire.specs.DecodeFaults.{of_rdata}
-use Rattle.dns_wire.specs.Message.{NumberAt, LongAt, NameRead, LengthAt, RecordAt}
+use Rattle.dns_wire.specs.Message.{U16At, U32At, NameRead, LengthAt, RecordAt}
 use Rattle.dns_wire.specs.Outcome.{Told, OrMemory}
 use Rattle.dns_wire.specs.declared.content.Content.{Content}
 use Rattle.dns_wire.specs.declared.content.Content.TheVariants as content
@@ -152,12 +153,12 @@ content_belongs message kind class at rdata what h k =
     belongs_of kind class (form_of kind class) message rdata.1 rdata.0 what (form_fits kind class) (length_span message at rdata h).few (told_value of_rdata (ContentIn (form_of kind class) message rdata.1 rdata.0) what k)
 
 -- a record whose content is read, or not
-pub record_goes : (message : List ℕ) (at : ℕ) (owner : List (List ℕ) × ℕ) (kind class ttl rdata : ℕ × ℕ) (what : Content) (fits : IsTrue (belongs kind.0 class.0 what)) → NameRead message at (Ok owner) → NumberAt message owner.1 (Ok kind) → NumberAt message kind.1 (Ok class) → LongAt message class.1 (Ok ttl) → LengthAt message ttl.1 (Ok rdata) → OrMemory (Told of_rdata (ContentIn (form_of kind.0 class.0) message rdata.1 rdata.0)) (Ok what) → OrMemory (RecordAt message at) (Ok (record { owner = owner.0; kind = kind.0; class = class.0; ttl = ttl.0; content = what; belongs = fits }, rdata.0))
+pub record_goes : (message : List ℕ) (at : ℕ) (owner : List (List ℕ) × ℕ) (kind class ttl rdata : ℕ × ℕ) (what : Content) (fits : IsTrue (belongs kind.0 class.0 what)) → NameRead message at (Ok owner) → U16At message owner.1 (Ok kind) → U16At message kind.1 (Ok class) → U32At message class.1 (Ok ttl) → LengthAt message ttl.1 (Ok rdata) → OrMemory (Told of_rdata (ContentIn (form_of kind.0 class.0) message rdata.1 rdata.0)) (Ok what) → OrMemory (RecordAt message at) (Ok (record { owner = owner.0; kind = kind.0; class = class.0; ttl = ttl.0; content = what; belongs = fits }, rdata.0))
 record_goes message at owner kind class ttl rdata what fits h1 h2 h3 h4 h5 (inl h6) =
     inl (goes owner h1 (goes kind h2 (goes class h3 (goes ttl h4 (goes rdata h5 (goes what h6 (fits, refl)))))))
 record_goes message at owner kind class ttl rdata what fits h1 h2 h3 h4 h5 (inr none) = absurd cc
 
-pub record_stops : (message : List ℕ) (at : ℕ) (owner : List (List ℕ) × ℕ) (kind class ttl rdata : ℕ × ℕ) (fault : DecodeFault) (result : Result (Record × ℕ) DecodeFault) → NameRead message at (Ok owner) → NumberAt message owner.1 (Ok kind) → NumberAt message kind.1 (Ok class) → LongAt message class.1 (Ok ttl) → LengthAt message ttl.1 (Ok rdata) → OrMemory (Told of_rdata (ContentIn (form_of kind.0 class.0) message rdata.1 rdata.0)) (Err fault) → IsErrAnd result (λ told. told ≡ fault) → OrMemory (RecordAt message at) result
+pub record_stops : (message : List ℕ) (at : ℕ) (owner : List (List ℕ) × ℕ) (kind class ttl rdata : ℕ × ℕ) (fault : DecodeFault) (result : Result (Record × ℕ) DecodeFault) → NameRead message at (Ok owner) → U16At message owner.1 (Ok kind) → U16At message kind.1 (Ok class) → U32At message class.1 (Ok ttl) → LengthAt message ttl.1 (Ok rdata) → OrMemory (Told of_rdata (ContentIn (form_of kind.0 class.0) message rdata.1 rdata.0)) (Err fault) → IsErrAnd result (λ told. told ≡ fault) → OrMemory (RecordAt message at) result
 record_stops message at owner kind class ttl rdata fault (Ok value) h1 h2 h3 h4 h5 h6 is = absurd is
 record_stops message at owner kind class ttl rdata fault (Err told) h1 h2 h3 h4 h5 (inl h6) is =
     inl (goes owner h1 (goes kind h2 (goes class h3 (goes ttl h4 (goes rdata h5 (stops fault h6 (ap Err is)))))))

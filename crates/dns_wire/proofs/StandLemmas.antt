@@ -3,13 +3,13 @@ use Rattle.std.proofs.Common.{◌≡◌, ℕ, ◌+◌, List, [], ◌∷◌, ◌+
 use Rattle.std.proofs.lemmas.List.{take_at, drop_at, take-take, take_all, drop-take, drop-drop}
 use Rattle.std.specs.List.{AllByRecursion, flat_map}
 use Rattle.dns_name.specs.Name.{IsLabel, IsName, label_wire, wire_of}
-use Rattle.dns_name.specs.Wire.{StandsAt, RootAt, Field, Leads, labels_in, behind_pointer, NameAt, by_label}
+use Rattle.dns_name.specs.Wire.{StandsAt, RootAt, Field, Leads, labels_in, after_pointer, NameAt, by_label}
 
 -- a list stands at the front of itself
 pub stands-whole : (bytes : List ℕ) → StandsAt bytes 0 bytes
 stands-whole bytes = take_all (length bytes) bytes (omega arith)
 
--- of two parts that stand at a place the first stands there, and the other behind it
+-- of two parts that stand at a place the first stands there, and the other after it
 pub stands-append : (message : List ℕ) (at : ℕ) (front back : List ℕ) (size : ℕ) → length front ≡ size → StandsAt message at (front ++ back) → StandsAt message at front × StandsAt message (at + size) back
 stands-append message at front back size is h =
     let there = drop at message in
@@ -29,12 +29,12 @@ unfolding fields_of
 labels_in-fields_of [] = refl
 labels_in-fields_of (label ∷ labels) = ap (λ l. label ∷ l) (labels_in-fields_of labels)
 
-behind_pointer-fields_of : (labels : List (List ℕ)) (at : ℕ) → behind_pointer at (fields_of labels) ≡ None
+after_pointer-fields_of : (labels : List (List ℕ)) (at : ℕ) → after_pointer at (fields_of labels) ≡ None
 unfolding fields_of
-behind_pointer-fields_of [] at = refl
-behind_pointer-fields_of (label ∷ labels) at = behind_pointer-fields_of labels (at + (length label + 1))
+after_pointer-fields_of [] at = refl
+after_pointer-fields_of (label ∷ labels) at = after_pointer-fields_of labels (at + (length label + 1))
 
--- labels that stand at a place lead to the root behind them
+-- labels that stand at a place lead to the root after them
 leads-labels : (message : List ℕ) (start at root : ℕ) (labels : List (List ℕ)) → AllByRecursion IsLabel labels → root ≡ at + length (flat_map label_wire labels) → StandsAt message at (wire_of labels) → Leads message start at (fields_of labels) start root × RootAt message root
 unfolding fields_of
 leads-labels message start at root [] each is h =
@@ -63,5 +63,5 @@ NameAt-wire_of message at labels name h =
       end = way.1;
       spelt = labels_in-fields_of labels;
       short = name.short;
-      behind = end ∙ ap (λ o. unwrap_or o (root + 1)) (sym (behind_pointer-fields_of labels at));
+      after = end ∙ ap (λ o. unwrap_or o (root + 1)) (sym (after_pointer-fields_of labels at));
     }

@@ -1,17 +1,17 @@
 -- The character-strings of RDATA come to one thing, and in a list of bytes to something.
 use Rattle.std.proofs.Common.{◌≡◌, ◌⊎◌, ℕ, zero, suc, ◌+◌, ◌-◌, ◌<◌, ◌≤◌, List, [], ◌∷◌, length, drop, Result, Ok, Err, refl, sym, ◌∙◌, ap, subst, inl, inr, arith}
 use Rattle.std.specs.List.{AllByRecursion}
-use Rattle.enum_base.proofs.StageLaws.{IsSingle, IsTotal}
+use Rattle.enum_base.proofs.StageLemmas.{IsSingle, IsTotal}
 use Rattle.dns_name.specs.Name.{IsByte}
 use Rattle.dns_name.specs.Wire.{StandsAt}
 use Rattle.dns_name.proofs.WireLemmas.{one_first}
-use Rattle.naptr_data.specs.Rdata.{string_wire}
-use Rattle.naptr_data.specs.Fields.{TextIsCut, TextIn}
-use Rattle.naptr_data.specs.declared.in_fault.InFault.{InFault}
-use Rattle.naptr_data.specs.declared.in_fault.InFault.TheVariants.{Shape}
-use Rattle.naptr_data.proofs.FieldLemmas.{by_size, IsTotal-text}
+use Rattle.rdata_field.specs.Strings.{string_wire}
+use Rattle.rdata_field.specs.Fields.{TextIsCut, TextIn}
+use Rattle.rdata_field.specs.declared.in_fault.InFault.{InFault}
+use Rattle.rdata_field.specs.declared.in_fault.InFault.TheVariants.{Shape}
+use Rattle.rdata_field.proofs.PlaceLemmas.{by_size, one_part}
+use Rattle.rdata_field.proofs.FieldLemmas.{IsTotal-text}
 use Rattle.dns_wire.specs.Contents.{TextsStand, TextsIn}
-use Rattle.dns_wire.proofs.FieldLemmas.{one_part}
 
 same_text : (message : List ℕ) (at : ℕ) (one two : List ℕ) → StandsAt message at (string_wire one) → StandsAt message at (string_wire two) → one ≡ two
 same_text message at one two h k =

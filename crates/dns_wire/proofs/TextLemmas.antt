@@ -2,10 +2,10 @@
 use Rattle.std.proofs.Common.{◌≡◌, ℕ, ◌+◌, ◌<◌, ◌≤◌, List, [], ◌∷◌, ◌++◌, length, Result, Ok, Err, refl, sym, ◌∙◌, ap, subst, inl, inr, arith, length-append}
 use Rattle.std.specs.Result.{IsErrAnd}
 use Rattle.dns_name.specs.Wire.{StandsAt}
-use Rattle.naptr_data.specs.Rdata.{string_wire}
-use Rattle.naptr_data.specs.Fields.{StandsWithin, TextIsCut, TextIn}
-use Rattle.naptr_data.specs.declared.in_fault.InFault.{InFault}
-use Rattle.naptr_data.specs.declared.in_fault.InFault.TheVariants.{Shape}
+use Rattle.rdata_field.specs.Strings.{string_wire}
+use Rattle.rdata_field.specs.Fields.{StandsWithin, TextIsCut, TextIn}
+use Rattle.rdata_field.specs.declared.in_fault.InFault.{InFault}
+use Rattle.rdata_field.specs.declared.in_fault.InFault.TheVariants.{Shape}
 use Rattle.dns_wire.specs.Contents.{TextsStand, TextsIn}
 use Rattle.dns_wire.specs.DecodeFaults.{of_rdata}
 use Rattle.dns_wire.specs.Outcome.{Told, OrMemory}
@@ -15,7 +15,7 @@ use Rattle.dns_wire.specs.declared.decode_fault.DecodeFault.{DecodeFault}
 pub record IsText (message : List ℕ) (to at : ℕ) (text : List ℕ) (next : ℕ) : Type 0 where
   pub short : length text ≤ 255
   pub there : StandsWithin message at to (string_wire text)
-  pub behind : next ≡ at + (length text + 1)
+  pub after : next ≡ at + (length text + 1)
 
 pub text_read : (message : List ℕ) (to at : ℕ) (text : List ℕ) (next : ℕ) → TextIn message to at (Ok (text, next)) → IsText message to at text next
 text_read message to at text next (inl (own, short, there, is)) =
@@ -25,7 +25,7 @@ text_read message to at text next (inl (own, short, there, is)) =
     record {
       short = subst (λ (x : List ℕ). length x ≤ 255) (sym same) short;
       there = subst (λ x. StandsWithin message at to (string_wire x)) (sym same) there;
-      behind = place ∙ ap (λ (x : List ℕ). at + (length x + 1)) (sym same);
+      after = place ∙ ap (λ (x : List ℕ). at + (length x + 1)) (sym same);
     }
 text_read message to at text next (inr (none, is)) = absurd cc
 
@@ -48,13 +48,13 @@ pub record IsReadingTexts (message : List ℕ) (from to : ℕ) (texts : List (Li
 pub texts-first : (message : List ℕ) (from to : ℕ) (text : List ℕ) (next : ℕ) → TextIn message to from (Ok (text, next)) → next ≤ to → IsReadingTexts message from to (text ∷ []) next
 texts-first message from to text next h low =
     let t = text_read message to from text next h in
-    record { stand = (t.short, t.there.0, sym t.behind); some = omega arith; low = low }
+    record { stand = (t.short, t.there.0, sym t.after); some = omega arith; low = low }
 
 pub texts-more : (message : List ℕ) (from to : ℕ) (texts : List (List ℕ)) (at : ℕ) (text : List ℕ) (next : ℕ) → IsReadingTexts message from to texts at → TextIn message to at (Ok (text, next)) → next ≤ to → IsReadingTexts message from to (texts ++ text ∷ []) next
 texts-more message from to texts at text next r h low =
     let t = text_read message to at text next h in
     record {
-      stand = subst (λ n. TextsStand message from (texts ++ text ∷ []) n) (sym t.behind) (stand-more message from texts at text r.stand t.short t.there.0);
+      stand = subst (λ n. TextsStand message from (texts ++ text ∷ []) n) (sym t.after) (stand-more message from texts at text r.stand t.short t.there.0);
       some = omega (arith, length-append texts (text ∷ []));
       low = low;
     }

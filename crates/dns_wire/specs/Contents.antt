@@ -1,34 +1,18 @@
 -- The content of RDATA in a message (RFC 1035, sections 3.3 and 3.4; RFC 3596, 2782, 3403, 6891). A reading tells what stands at a
--- place: a value and the place behind it, or what breaks it there. The RDATA lies from one place to another.
+-- place: a value and the place after it, or what breaks it there. The RDATA lies from one place to another.
 use Rattle.std.specs.Prelude.{◌≡◌, ◌⊎◌, ℕ, ◌+◌, ◌-◌, ◌<◌, ◌≤◌, ◌^◌, List, [], ◌∷◌, length, take, drop, Result, Ok, Err}
-use Rattle.std.specs.Int.{w32, to_be_bytes}
 use Rattle.enum_base.specs.Stages.{Then}
 use Rattle.dns_name.specs.Wire.{StandsAt}
-use Rattle.naptr_data.specs.Rdata.{string_wire}
-use Rattle.naptr_data.specs.Fields.{StandsWithin, NumberIn, TextIsCut, NameIn, EndsIn, RuleIn}
-use Rattle.naptr_data.specs.declared.in_fault.InFault.{InFault}
-use Rattle.naptr_data.specs.declared.in_fault.InFault.TheVariants.{Shape}
+use Rattle.rdata_field.specs.Strings.{string_wire}
+use Rattle.rdata_field.specs.Fields.{StandsWithin, U16In, TextIsCut, NameIn, EndsIn}
+use Rattle.naptr_rule.specs.Fields.{RuleIn}
+use Rattle.rdata_field.specs.declared.in_fault.InFault.{InFault}
+use Rattle.rdata_field.specs.declared.in_fault.InFault.TheVariants.{Shape}
 use Rattle.dns_wire.specs.declared.content.Soa.{Soa}
 use Rattle.dns_wire.specs.declared.content.Content.{Content}
 use Rattle.dns_wire.specs.declared.content.Content.TheVariants as content
 use Rattle.dns_wire.specs.declared.form.Form.{Form}
 use Rattle.dns_wire.specs.declared.form.Form.TheVariants as form
-
--- a number of 32 bits, the high byte first; or its four bytes do not lie before `to`, which is the fault of its place
-abbrev pub LongBy : {F : Type 0} → (ℕ → F) → List ℕ → ℕ → ℕ → Result (ℕ × ℕ) F → Type 0
-LongBy cut message to at result =
-    ((value : ℕ) × (value < 2 ^ 32) × StandsWithin message at to (to_be_bytes w32 value) × (result ≡ Ok (value, at + 4)))
-    ⊎ ((to < at + 4) × (result ≡ Err (cut at)))
-
--- a number of 32 bits in RDATA
-abbrev pub LongIn : List ℕ → ℕ → ℕ → Result (ℕ × ℕ) InFault → Type 0
-LongIn = LongBy Shape
-
--- an address of that many bytes; or they do not lie before `to`
-abbrev pub AddressIn : ℕ → List ℕ → ℕ → ℕ → Result (List ℕ × ℕ) InFault → Type 0
-AddressIn size message to at result =
-    ((bytes : List ℕ) × (length bytes ≡ size) × StandsWithin message at to bytes × (result ≡ Ok (bytes, at + size)))
-    ⊎ ((to < at + size) × (result ≡ Err (Shape at)))
 
 -- character-strings stand one after another from a place to another (RFC 1035, 3.3)
 abbrev pub TextsStand : List ℕ → ℕ → List (List ℕ) → ℕ → Type 0
@@ -48,11 +32,11 @@ abbrev pub SoaIn : List ℕ → ℕ → ℕ → Result (Soa × ℕ) InFault → 
 SoaIn message to at =
     Then (NameIn message to at) (λ mname.
     Then (NameIn message to mname.1) (λ rname.
-    Then (LongIn message to rname.1) (λ serial.
-    Then (LongIn message to serial.1) (λ refresh.
-    Then (LongIn message to refresh.1) (λ retry.
-    Then (LongIn message to retry.1) (λ expire.
-    Then (LongIn message to expire.1) (λ minimum all.
+    Then (U32In message to rname.1) (λ serial.
+    Then (U32In message to serial.1) (λ refresh.
+    Then (U32In message to refresh.1) (λ retry.
+    Then (U32In message to retry.1) (λ expire.
+    Then (U32In message to expire.1) (λ minimum all.
     all ≡ Ok (
       record {
         mname = mname.0;
@@ -82,15 +66,15 @@ ContentIn form.Cname message from to = Then (LastIn (NameIn message to) to from)
 ContentIn form.Soa message from to = Then (LastIn (SoaIn message to) to from) (λ start all. all ≡ Ok (content.Soa start))
 ContentIn form.Ptr message from to = Then (LastIn (NameIn message to) to from) (λ name all. all ≡ Ok (content.Ptr name))
 ContentIn form.Mx message from to =
-    Then (NumberIn message to from) (λ preference.
+    Then (U16In message to from) (λ preference.
     Then (LastIn (NameIn message to) to preference.1) (λ exchange all.
     all ≡ Ok (content.Mx preference.0 exchange)))
 ContentIn form.Txt message from to = Then (TextsIn message from to) (λ texts all. all ≡ Ok (content.Txt texts))
 ContentIn form.Aaaa message from to = Then (LastIn (AddressIn 16 message to) to from) (λ address all. all ≡ Ok (content.Aaaa address))
 ContentIn form.Srv message from to =
-    Then (NumberIn message to from) (λ priority.
-    Then (NumberIn message to priority.1) (λ weight.
-    Then (NumberIn message to weight.1) (λ port.
+    Then (U16In message to from) (λ priority.
+    Then (U16In message to priority.1) (λ weight.
+    Then (U16In message to weight.1) (λ port.
     Then (LastIn (NameIn message to) to port.1) (λ target all.
     all ≡ Ok (content.Srv priority.0 weight.0 port.0 target)))))
 ContentIn form.Naptr message from to = Then (RuleIn message from to) (λ rule all. all ≡ Ok (content.Naptr rule))

@@ -3,8 +3,8 @@ use Rattle.std.specs.Prelude.{ℕ, List, codes}
 use Rattle.enum_base.specs.Words.{fault_at}
 use Rattle.dns_name.specs.declared.wire_fault.WireFault.{WireFault}
 use Rattle.dns_name.specs.declared.wire_fault.WireFault.TheVariants as wire
-use Rattle.naptr_data.specs.declared.in_fault.InFault.{InFault}
-use Rattle.naptr_data.specs.declared.in_fault.InFault.TheVariants as rdata
+use Rattle.rdata_field.specs.declared.in_fault.InFault.{InFault}
+use Rattle.rdata_field.specs.declared.in_fault.InFault.TheVariants as rdata
 use Rattle.dns_wire.specs.declared.decode_fault.DecodeFault.{DecodeFault}
 use Rattle.dns_wire.specs.declared.decode_fault.DecodeFault.TheVariants as decode
 

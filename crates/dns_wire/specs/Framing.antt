@@ -12,11 +12,11 @@ FitsFrame message = length message < 2 ^ 16
 abbrev pub framed : List ℕ → List ℕ
 framed message = to_be_bytes w16 (length message) ++ message
 
--- messages on a stream, one behind another
+-- messages on a stream, one after another
 abbrev pub framed_all : List (List ℕ) → List ℕ
 framed_all messages = flat_map framed messages
 
--- a stream so far: the messages that were given, and the bytes behind them
+-- a stream so far: the messages that were given, and the bytes after them
 pub record Stream : Type 0 where
   pub given : List (List ℕ)
   pub rest : List ℕ
@@ -25,7 +25,7 @@ pub record Stream : Type 0 where
 abbrev pub stream_bytes : Stream → List ℕ
 stream_bytes stream = framed_all stream.given ++ stream.rest
 
--- a whole message stands at the front of some bytes, and others behind it
+-- a whole message stands at the front of some bytes, and others after it
 pub record BeginsWith (bytes message after : List ℕ) : Type 0 where
   pub fits : FitsFrame message
   pub parts : bytes ≡ framed message ++ after

@@ -1,4 +1,4 @@
--- What a message spells (RFC 1035, section 4.1). A reading tells what stands at a place: a value and the place behind it, or what
+-- What a message spells (RFC 1035, section 4.1). A reading tells what stands at a place: a value and the place after it, or what
 -- breaks it there. The places of faults are this project's own.
 use Rattle.std.specs.Prelude.{◌≡◌, ◌⊎◌, ℕ, zero, suc, ◌+◌, ◌<◌, ◌≤◌, List, [], ◌∷◌, length, IsTrue, Result, Ok, Err}
 use Rattle.enum_base.specs.Stages.{Then}
@@ -8,8 +8,8 @@ use Rattle.dns_wire.specs.Kinds.{belongs}
 use Rattle.dns_wire.specs.Counts.{are_counted}
 use Rattle.dns_wire.specs.DecodeFaults.{of_name, of_rdata}
 use Rattle.dns_wire.specs.Forms.{form_of}
-use Rattle.naptr_data.specs.Fields.{NumberBy}
-use Rattle.dns_wire.specs.Contents.{LongBy, ContentIn}
+use Rattle.rdata_field.specs.Fields.{U16By, U32By}
+use Rattle.dns_wire.specs.Contents.{ContentIn}
 use Rattle.dns_wire.specs.Outcome.{Told}
 use Rattle.dns_wire.specs.declared.question.Question.{Question}
 use Rattle.dns_wire.specs.declared.record.Record.{Record}
@@ -20,11 +20,11 @@ use Rattle.dns_wire.specs.declared.decode_fault.DecodeFault.{DecodeFault}
 use Rattle.dns_wire.specs.declared.decode_fault.DecodeFault.TheVariants.{Short, RdataLength, Trailing}
 
 -- a number of 16 bits, and one of 32; or its bytes do not lie in the message
-abbrev pub NumberAt : List ℕ → ℕ → Result (ℕ × ℕ) DecodeFault → Type 0
-NumberAt message at = NumberBy Short message (length message) at
+abbrev pub U16At : List ℕ → ℕ → Result (ℕ × ℕ) DecodeFault → Type 0
+U16At message at = U16By Short message (length message) at
 
-abbrev pub LongAt : List ℕ → ℕ → Result (ℕ × ℕ) DecodeFault → Type 0
-LongAt message at = LongBy Short message (length message) at
+abbrev pub U32At : List ℕ → ℕ → Result (ℕ × ℕ) DecodeFault → Type 0
+U32At message at = U32By Short message (length message) at
 
 -- a name, or what breaks it (RFC 1035, 4.1.4)
 abbrev pub NameRead : List ℕ → ℕ → Result (List (List ℕ) × ℕ) DecodeFault → Type 0
@@ -36,15 +36,15 @@ NameRead message at result =
 abbrev pub QuestionAt : List ℕ → ℕ → Result (Question × ℕ) DecodeFault → Type 0
 QuestionAt message at =
     Then (NameRead message at) (λ name.
-    Then (NumberAt message name.1) (λ kind.
-    Then (NumberAt message kind.1) (λ class all.
+    Then (U16At message name.1) (λ kind.
+    Then (U16At message kind.1) (λ class all.
     all ≡ Ok (record { name = name.0; kind = kind.0; class = class.0 }, class.1))))
 
--- an RDLENGTH: the place where the RDATA ends, and the place behind the number, where it begins; or it leads past the end of the
+-- an RDLENGTH: the place where the RDATA ends, and the place after the number, where it begins; or it leads past the end of the
 -- message (RFC 1035, 4.1.3)
 abbrev pub LengthAt : List ℕ → ℕ → Result (ℕ × ℕ) DecodeFault → Type 0
 LengthAt message at =
-    Then (NumberAt message at) (λ size all.
+    Then (U16At message at) (λ size all.
     ((size.1 + size.0 ≤ length message) × (all ≡ Ok (size.1 + size.0, size.1)))
     ⊎ ((length message < size.1 + size.0) × (all ≡ Err (RdataLength at))))
 
@@ -52,9 +52,9 @@ LengthAt message at =
 abbrev pub RecordAt : List ℕ → ℕ → Result (Record × ℕ) DecodeFault → Type 0
 RecordAt message at =
     Then (NameRead message at) (λ owner.
-    Then (NumberAt message owner.1) (λ kind.
-    Then (NumberAt message kind.1) (λ class.
-    Then (LongAt message class.1) (λ ttl.
+    Then (U16At message owner.1) (λ kind.
+    Then (U16At message kind.1) (λ class.
+    Then (U32At message class.1) (λ ttl.
     Then (LengthAt message ttl.1) (λ rdata.
     Then (Told of_rdata (ContentIn (form_of kind.0 class.0) message rdata.1 rdata.0)) (λ content all.
     (fits : IsTrue (belongs kind.0 class.0 content))
@@ -79,12 +79,12 @@ ItemsAt one (suc more) at =
 -- six numbers of 16 bits (RFC 1035, 4.1.1)
 abbrev pub HeaderNumbers : List ℕ → Result (Header × Counts) DecodeFault → Type 0
 HeaderNumbers message =
-    Then (NumberAt message 0) (λ id.
-    Then (NumberAt message id.1) (λ bits.
-    Then (NumberAt message bits.1) (λ questions.
-    Then (NumberAt message questions.1) (λ answers.
-    Then (NumberAt message answers.1) (λ authority.
-    Then (NumberAt message authority.1) (λ additional all.
+    Then (U16At message 0) (λ id.
+    Then (U16At message id.1) (λ bits.
+    Then (U16At message bits.1) (λ questions.
+    Then (U16At message questions.1) (λ answers.
+    Then (U16At message answers.1) (λ authority.
+    Then (U16At message authority.1) (λ additional all.
     all ≡ Ok (
       record { id = id.0; bits = bits.0 },
       record {

@@ -3,7 +3,8 @@ use Rattle.std.specs.Prelude.{ℕ, List, ◌++◌}
 use Rattle.std.specs.Int.{w16, w32, to_be_bytes}
 use Rattle.std.specs.List.{flat_map}
 use Rattle.dns_name.specs.Name.{wire_of}
-use Rattle.naptr_data.specs.Rdata.{string_wire, rdata}
+use Rattle.rdata_field.specs.Strings.{string_wire}
+use Rattle.naptr_rule.specs.Rdata.{rdata}
 use Rattle.dns_wire.specs.declared.content.Soa.{Soa}
 use Rattle.dns_wire.specs.declared.content.Content.{Content}
 use Rattle.dns_wire.specs.declared.content.Content.TheVariants as content

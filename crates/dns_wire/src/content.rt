@@ -1,13 +1,14 @@
 //! What records say.
 ghost use Rattle.std.specs.Prelude.{◌≡◌, ◌-◌, ◌^◌, ◌++◌, length, min, take, IfOk, OnOk};
 ghost use Rattle.std.specs.List.{AllByRecursion, flat_map};
-ghost use Rattle.naptr_data.specs.Rdata.{string_wire, rdata};
+ghost use Rattle.rdata_field.specs.Strings.{string_wire};
+ghost use Rattle.naptr_rule.specs.Rdata.{rdata};
 ghost use Rattle.dns_wire.specs.Ranges.{AreBytes, IsText};
 
 use crate::append::{append, append_u16, append_u32};
 use dns_name::Name;
 use enum_base::{Bytes, List, MemoryFault, Text255};
-use naptr_data::Naptr;
+use naptr_rule::Naptr;
 use std::alloc::Global;
 
 /// The character-strings of a TXT record (RFC 1035, 3.3.14).

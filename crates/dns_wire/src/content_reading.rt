@@ -9,8 +9,8 @@ use crate::content::{Content, copy_bytes};
 use crate::decode_fault::DecodeFault;
 use crate::form::Form;
 use crate::rdata::{read_address, read_last_name, read_mx, read_soa, read_srv};
-use crate::rdata_field::texts_in;
-use naptr_data::Naptr;
+use crate::texts::texts_in;
+use naptr_rule::Naptr;
 use std::alloc::Global;
 
 /// The content of that form in the RDATA between two places.

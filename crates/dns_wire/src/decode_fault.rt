@@ -3,7 +3,7 @@ ghost use Rattle.std.specs.Prelude.{◌≡◌};
 
 use dns_name::WireFault;
 use enum_base::{FaultWords, MemoryFault, fault_at, fault_named};
-use naptr_data::InFault;
+use rdata_field::InFault;
 
 /// What breaks a message, at the place where the field begins. Places count bytes from the message's start.
 #[derive(Clone, Copy, Debug, PartialEq, Eq)]
@@ -20,7 +20,7 @@ pub enum DecodeFault {
     RdataLength { at: usize },
     /// A field, label or pointer of RDATA that does not lie wholly in it, or the place where the content ends before it does.
     RdataShape { at: usize },
-    /// Bytes are left behind the last record.
+    /// Bytes are left after the last record.
     Trailing { at: usize },
     /// Memory ran out.
     Memory,

@@ -8,7 +8,7 @@ ghost use Rattle.dns_wire.specs.declared.decode_fault.DecodeFault.{DecodeFault};
 ghost use Rattle.dns_wire.specs.declared.decode_fault.DecodeFault.TheVariants.{Memory};
 
 use crate::decode_fault::DecodeFault;
-use crate::field::number_at;
+use crate::field::u16_at;
 use crate::message::{Counts, Header, Message};
 use crate::question::Questions;
 use crate::reading::{question_at, record_at};
@@ -19,7 +19,7 @@ use std::alloc::Global;
 /// The message that the bytes are (RFC 1035, 4.1; RFC 6891).
 ///
 /// # Errors
-/// The first field in the order of reading that cannot be read, with its place; bytes behind the last record; want of memory.
+/// The first field in the order of reading that cannot be read, with its place; bytes after the last record; want of memory.
 pub fn decode(alloc: Global, bytes: &[u8]) -> Result<Message, DecodeFault>
     ensures message { (message : Message) → result ≡ Ok message → Spells bytes.now message }
     ensures fault { (fault : DecodeFault) → result ≡ Err fault → fault ≢ Memory → Breaks bytes.now fault }
@@ -66,12 +66,12 @@ fn header_of(message: &[u8]) -> Result<(Header, Counts), DecodeFault>
     if message.len() < 12 {
         return Err(DecodeFault::Short { at: 0 });
     }
-    let (id, at_bits) = number_at(message, 0)?;
-    let (bits, at_questions) = number_at(message, at_bits)?;
-    let (questions, at_answers) = number_at(message, at_questions)?;
-    let (answers, at_authority) = number_at(message, at_answers)?;
-    let (authority, at_additional) = number_at(message, at_authority)?;
-    let (additional, _) = number_at(message, at_additional)?;
+    let (id, at_bits) = u16_at(message, 0)?;
+    let (bits, at_questions) = u16_at(message, at_bits)?;
+    let (questions, at_answers) = u16_at(message, at_questions)?;
+    let (answers, at_authority) = u16_at(message, at_answers)?;
+    let (authority, at_additional) = u16_at(message, at_authority)?;
+    let (additional, _) = u16_at(message, at_additional)?;
     let counts = Counts {
         questions,
         answers,
@@ -81,7 +81,7 @@ fn header_of(message: &[u8]) -> Result<(Header, Counts), DecodeFault>
     Ok((Header { id, bits }, counts))
 }
 
-// That many questions behind the header, and the place behind them.
+// That many questions after the header, and the place after them.
 fn questions_at(
     alloc: Global,
     message: &[u8],
@@ -103,7 +103,7 @@ fn questions_at(
     Ok((questions, at))
 }
 
-// That many records from that place, and the place behind them.
+// That many records from that place, and the place after them.
 fn records_at(
     alloc: Global,
     message: &[u8],

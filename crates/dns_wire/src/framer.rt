@@ -11,7 +11,7 @@ use std::ops::Range;
 
 /// Cuts a stream that comes in pieces into its messages: each is two bytes that tell its length, the
 /// high byte first, and then so many bytes (RFC 1035, 4.2.2). All bytes of the stream stay held.
-/// Contracts see the messages that were given and the bytes behind them.
+/// Contracts see the messages that were given and the bytes after them.
 #[derive(Drop)]
 pub struct Framer {
     stream: Bytes,

@@ -14,9 +14,9 @@ mod laws;
 mod message;
 mod question;
 mod rdata;
-mod rdata_field;
 mod reading;
 mod record;
+mod texts;
 
 pub use content::{Content, Soa, Texts};
 pub use decode_fault::DecodeFault;

@@ -1,14 +1,13 @@
 //! The content of RDATA in a message.
 ghost use Rattle.std.specs.Prelude.{◌<◌, ◌≤◌, length, IfOk};
 ghost use Rattle.dns_name.specs.Targets.{AreTargets};
-ghost use Rattle.naptr_data.specs.Fields.{NameIn};
-ghost use Rattle.dns_wire.specs.Contents.{AddressIn, SoaIn, LastIn, ContentIn};
+ghost use Rattle.rdata_field.specs.Fields.{AddressIn, NameIn};
+ghost use Rattle.dns_wire.specs.Contents.{SoaIn, LastIn, ContentIn};
 ghost use Rattle.dns_wire.specs.declared.form.Form.TheVariants as form;
 
 use crate::content::{Content, Soa};
-use crate::rdata_field::{address_in, long_in, short_in};
 use dns_name::Name;
-use naptr_data::{InFault, ends_in, name_in};
+use rdata_field::{InFault, address_in, ends_in, name_in, u16_in, u32_in};
 
 /// The address of that many bytes that the RDATA is (RFC 1035, 3.4.1; RFC 3596, 2.2).
 pub(crate) fn read_address<const N: usize>(
@@ -66,11 +65,11 @@ fn soa_in(message: &[u8], targets: &[u16], from: usize, to: usize) -> Result<(So
 {
     let (mname, at_rname) = name_in(message, targets, from, to)?;
     let (rname, at_serial) = name_in(message, targets, at_rname, to)?;
-    let (serial, at_refresh) = long_in(message, at_serial, to)?;
-    let (refresh, at_retry) = long_in(message, at_refresh, to)?;
-    let (retry, at_expire) = long_in(message, at_retry, to)?;
-    let (expire, at_minimum) = long_in(message, at_expire, to)?;
-    let (minimum, end) = long_in(message, at_minimum, to)?;
+    let (serial, at_refresh) = u32_in(message, at_serial, to)?;
+    let (refresh, at_retry) = u32_in(message, at_refresh, to)?;
+    let (retry, at_expire) = u32_in(message, at_retry, to)?;
+    let (expire, at_minimum) = u32_in(message, at_expire, to)?;
+    let (minimum, end) = u32_in(message, at_minimum, to)?;
     let soa = Soa {
         mname,
         rname,
@@ -95,7 +94,7 @@ pub(crate) fn read_mx(
     requires targets { AreTargets message.now targets.now }
     ensures { ContentIn form.Mx message.now from to result }
 {
-    let (preference, at_exchange) = short_in(message, from, to)?;
+    let (preference, at_exchange) = u16_in(message, from, to)?;
     let exchange = read_last_name(message, targets, at_exchange, to)?;
     Ok(Content::Mx(preference, exchange))
 }
@@ -112,9 +111,9 @@ pub(crate) fn read_srv(
     requires targets { AreTargets message.now targets.now }
     ensures { ContentIn form.Srv message.now from to result }
 {
-    let (priority, at_weight) = short_in(message, from, to)?;
-    let (weight, at_port) = short_in(message, at_weight, to)?;
-    let (port, at_target) = short_in(message, at_port, to)?;
+    let (priority, at_weight) = u16_in(message, from, to)?;
+    let (weight, at_port) = u16_in(message, at_weight, to)?;
+    let (port, at_target) = u16_in(message, at_port, to)?;
     let target = read_last_name(message, targets, at_target, to)?;
     Ok(Content::Srv(priority, weight, port, target))
 }

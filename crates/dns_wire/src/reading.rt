@@ -6,14 +6,14 @@ ghost use Rattle.dns_wire.specs.Outcome.{OrMemory};
 
 use crate::content_reading::content_in;
 use crate::decode_fault::DecodeFault;
-use crate::field::{long_at, number_at};
+use crate::field::{u16_at, u32_at};
 use crate::form::form_of;
 use crate::question::Question;
 use crate::record::Record;
 use dns_name::Name;
 use std::alloc::Global;
 
-/// The question at that place, and the place behind it (RFC 1035, 4.1.2).
+/// The question at that place, and the place after it (RFC 1035, 4.1.2).
 ///
 /// # Errors
 /// The first of its fields that cannot be read.
@@ -28,12 +28,12 @@ pub(crate) fn question_at(
     ensures within { IfOk result (λ read. (at < read.1) × (read.1 ≤ length message.now)) }
 {
     let (name, at_kind) = name_at(message, targets, at)?;
-    let (kind, at_class) = number_at(message, at_kind)?;
-    let (class, end) = number_at(message, at_class)?;
+    let (kind, at_class) = u16_at(message, at_kind)?;
+    let (class, end) = u16_at(message, at_class)?;
     Ok((Question { name, kind, class }, end))
 }
 
-/// The record at that place, and the place behind it (RFC 1035, 4.1.3).
+/// The record at that place, and the place after it (RFC 1035, 4.1.3).
 ///
 /// # Errors
 /// The first of its fields that cannot be read, or `Memory`.
@@ -49,9 +49,9 @@ pub(crate) fn record_at(
     ensures within { IfOk result (λ read. (at < read.1) × (read.1 ≤ length message.now)) }
 {
     let (owner, at_kind) = name_at(message, targets, at)?;
-    let (kind, at_class) = number_at(message, at_kind)?;
-    let (class, at_ttl) = number_at(message, at_class)?;
-    let (ttl, at_length) = long_at(message, at_ttl)?;
+    let (kind, at_class) = u16_at(message, at_kind)?;
+    let (class, at_ttl) = u16_at(message, at_class)?;
+    let (ttl, at_length) = u32_at(message, at_ttl)?;
     let (to, from) = length_at(message, at_length)?;
     let content = content_in(alloc, form_of(kind, class), message, targets, from, to)?;
     let record = Record {
@@ -64,7 +64,7 @@ pub(crate) fn record_at(
     Ok((record, to))
 }
 
-// The name at that place, and the place behind it.
+// The name at that place, and the place after it.
 fn name_at(message: &[u8], targets: &[u16], at: usize) -> Result<(Name, usize), DecodeFault>
     requires place { at ≤ length message.now }
     requires targets { AreTargets message.now targets.now }
@@ -80,7 +80,7 @@ fn length_at(message: &[u8], at: usize) -> Result<(usize, usize), DecodeFault>
     ensures length { LengthAt message.now at result }
     ensures within { IfOk result (λ read. (at < read.1) × (read.1 ≤ read.0) × (read.0 ≤ length message.now)) }
 {
-    let (size, from) = number_at(message, at)?;
+    let (size, from) = u16_at(message, at)?;
     let size = usize::from(size);
     if message.len() - from < size {
         return Err(DecodeFault::RdataLength { at });

@@ -1,6 +1,6 @@
 pub mod FromKeyLemmas
 pub mod KeyLemmas
-pub mod NumberFaults
+pub mod NumberFaultsLemmas
 pub mod NumberLemmas
 pub mod ServeLemmas
 pub mod SameKeyLemmas

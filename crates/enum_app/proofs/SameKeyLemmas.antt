@@ -1,5 +1,6 @@
 -- Names that are the same as the key of a number.
-use Rattle.std.proofs.Common.{◌≡◌, ℕ, ◌≤◌, true, nat_le, List, [], ◌∷◌, ◌++◌, map, reverse, Option, Some, None, IfSome, refl, sym, ap, subst, ◌∙◌, append_assoc, arith}
+use Rattle.std.proofs.Common.{◌≡◌, ℕ, ◌≤◌, true, nat_le, List, [], ◌∷◌, ◌++◌, map, reverse, Option, Some, None, IfSome}
+use Rattle.std.proofs.Common.{refl, sym, ap, subst, ◌∙◌, append_assoc, arith}
 use Rattle.std.proofs.lemmas.Bool.{and_parts, leb-true}
 use Rattle.std.proofs.lemmas.List.{append-nil, append_cancel_right, map-append, reverse-append}
 use Rattle.std.proofs.lemmas.List.Elements.{All-head, All-tail}
@@ -64,7 +65,9 @@ pub folded_wire : (name shown : List (List ℕ)) (wire : List ℕ) → shown ≡
 folded_wire name shown wire is spelt h = record { wire_is = spelt ∙ ap wire_of is; each = subst (AllByRecursion IsLabel) is h.each }
 
 -- what stands before the apex are the digits of a number: the name is its key
-pub key_of_wire : (name apex : List (List ℕ)) (wire top labels number : List ℕ) → IsFolded name wire → IsFolded apex top → wire ≡ labels ++ top → AreDigits number → labels ≡ labels_wire number → AreSame name (key_labels number apex)
+pub key_of_wire : (name apex : List (List ℕ)) (wire top labels number : List ℕ) → IsFolded name wire
+    → IsFolded apex top → wire ≡ labels ++ top → AreDigits number → labels ≡ labels_wire number
+    → AreSame name (key_labels number apex)
 key_of_wire name apex wire top labels number n a parts digits is =
     let whole : wire_of (folded_labels name) ≡ wire_of (key_labels number (folded_labels apex)) =
     sym n.wire_is ∙ parts ∙ ap (λ l. l ++ top) is ∙ ap (λ t. labels_wire number ++ t) a.wire_is ∙ sym (wire_parts number (folded_labels apex)) in
@@ -74,16 +77,22 @@ key_of_wire name apex wire top labels number n a parts digits is =
     ∙ sym (folded_key number apex digits.each)
 
 -- the wire form of a name that is the key of digits
-pub wire_of_key : (name apex : List (List ℕ)) (wire top digits : List ℕ) → IsFolded name wire → IsFolded apex top → AreDigits digits → AreSame name (key_labels digits apex) → wire ≡ labels_wire digits ++ top
+pub wire_of_key : (name apex : List (List ℕ)) (wire top digits : List ℕ) → IsFolded name wire → IsFolded apex top
+    → AreDigits digits → AreSame name (key_labels digits apex) → wire ≡ labels_wire digits ++ top
 wire_of_key name apex wire top digits n a are same =
     n.wire_is ∙ ap wire_of (same ∙ folded_key digits apex are.each)
     ∙ wire_parts digits (folded_labels apex) ∙ ap (λ t. labels_wire digits ++ t) (sym a.wire_is)
 
-pub labels_of_key : (name apex : List (List ℕ)) (wire top labels digits : List ℕ) → IsFolded name wire → IsFolded apex top → wire ≡ labels ++ top → AreDigits digits → AreSame name (key_labels digits apex) → labels ≡ labels_wire digits
+pub labels_of_key : (name apex : List (List ℕ)) (wire top labels digits : List ℕ) → IsFolded name wire
+    → IsFolded apex top → wire ≡ labels ++ top → AreDigits digits → AreSame name (key_labels digits apex)
+    → labels ≡ labels_wire digits
 labels_of_key name apex wire top labels digits n a parts are same =
     append_cancel_right labels (labels_wire digits) top (sym parts ∙ wire_of_key name apex wire top digits n a are same)
 
 -- a number that was found is one with that key
-pub found_key : (name apex : List (List ℕ)) (wire top labels : List ℕ) (found : Option (List ℕ)) → IsFolded name wire → IsFolded apex top → wire ≡ labels ++ top → IfSome found AreDigits → IfSome found (λ number. labels ≡ labels_wire number) → IfSome found (λ number. AreSame name (key_labels number apex))
+pub found_key : (name apex : List (List ℕ)) (wire top labels : List ℕ) (found : Option (List ℕ)) → IsFolded name wire
+    → IsFolded apex top → wire ≡ labels ++ top → IfSome found AreDigits
+    → IfSome found (λ number. labels ≡ labels_wire number)
+    → IfSome found (λ number. AreSame name (key_labels number apex))
 found_key name apex wire top labels None n a parts digits is = tt
 found_key name apex wire top labels (Some number) n a parts digits is = key_of_wire name apex wire top labels number n a parts digits is

@@ -1,5 +1,6 @@
 -- What the laws of applications say of ENUM, proved (RFC 6116, section 3.4).
-use Rattle.std.proofs.Common.{◌≡◌, ℕ, ◌+◌, ◌<◌, ◌≤◌, false, ◌&&◌, ◌||◌, ◌==◌, cond, is_none, List, [], ◌∷◌, Option, IsSome, option_map, refl, sym, ap, ◌∙◌, inl, inr, arith}
+use Rattle.std.proofs.Common.{◌≡◌, ℕ, ◌+◌, ◌<◌, ◌≤◌, false, ◌&&◌, ◌||◌, ◌==◌, cond, is_none, List, [], ◌∷◌, Option}
+use Rattle.std.proofs.Common.{IsSome, option_map, refl, sym, ap, ◌∙◌, inl, inr, arith}
 use Rattle.std.proofs.lemmas.Bool.{cases_eq, cases_lt, eq-eqb, ne_eqb, or_from, or_left, or_right}
 use Rattle.std.proofs.lemmas.Str.Ascii.{lowercase_is}
 use Rattle.enum_base.specs.Folding.{folded, folded_byte}

@@ -8,4 +8,6 @@ use Rattle.enum_app.specs.App.{enum_serves}
 -- services serve exactly where they are spelled by items that fit what is wanted
 abbrev pub ServesWhereItFits : Type 0
 ServesWhereItFits =
-    (wanted : Option (List ℕ)) (services : List ℕ) → IsTrue (enum_serves wanted services) ↔ ((items : List Item) × SpellsServices services items × Fits wanted items)
+    (wanted : Option (List ℕ)) (services : List ℕ)
+    → IsTrue (enum_serves wanted services)
+    ↔ ((items : List Item) × SpellsServices services items × Fits wanted items)

@@ -1,13 +1,12 @@
 -- Telephone numbers as they are typed (RFC 6116, section 3.2; the accepted spellings are this project's own).
-use Rattle.std.specs.Prelude.{◌≡◌, ◌≢◌, ℕ, ◌<◌, ◌≤◌, Bool, true, false, ◌||◌, ◌==◌, List, [], ◌∷◌, ◌++◌, length, take, drop, filter, map, reverse, codes, flat_map, Some, slice_get}
+use Rattle.std.specs.Prelude.{◌≡◌, ◌≢◌, ℕ, ◌<◌, ◌≤◌, Bool, true, false, ◌||◌, ◌==◌, List, [], ◌∷◌, ◌++◌, length, take}
+use Rattle.std.specs.Prelude.{drop, filter, map, reverse, codes, flat_map, Some, slice_get}
 use Rattle.std.specs.Char.{is_ascii_digit}
 use Rattle.std.specs.List.{AllPass}
 use Rattle.dns_name.specs.Name.{label_wire}
+pub use Rattle.service_field.specs.Services.{plus}
 use Rattle.enum_app.specs.declared.number.NumberFault.{NumberFault}
 use Rattle.enum_app.specs.declared.number.NumberFault.TheVariants.{NoPlus, NoDigit, TooLong, BadChar}
-
-abbrev pub plus : ℕ
-plus = 43
 
 -- a byte that may stand between digits: a blank, ( ) - or .
 abbrev pub is_separator : ℕ → Bool

@@ -64,7 +64,7 @@ impl Model for Number {
 }
 
 impl Number {
-    /// Reads a plus sign and then at most fifteen digits, with blanks and `-`, `.`, `(`, `)` anywhere
+    /// Reads a plus sign and then at most fifteen digits, with spaces and `-`, `.`, `(`, `)` anywhere
     /// between and around them.
     pub fn parse(text: &[u8]) -> Result<Number, NumberFault>
         ensures number { IfOk result (λ number. IsNumber text.now) }

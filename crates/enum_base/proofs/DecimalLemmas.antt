@@ -7,7 +7,9 @@ capped_once : (value digit most : ℕ) → min (10 * min value most + digit) mos
 capped_once value digit most = omega arith
 
 -- one digit more
-pub capped_more : (digits : List ℕ) (i most value : ℕ) → i < length digits → value ≡ min (decimal_value (take i digits)) most → min (10 * value + (get_or digits i 0 - 48)) most ≡ min (decimal_value (take (i + 1) digits)) most
+pub capped_more : (digits : List ℕ) (i most value : ℕ) → i < length digits
+    → value ≡ min (decimal_value (take i digits)) most
+    → min (10 * value + (get_or digits i 0 - 48)) most ≡ min (decimal_value (take (i + 1) digits)) most
 capped_more digits i most value below is =
     ap (λ v. min (10 * v + (get_or digits i 0 - 48)) most) is
     ∙ capped_once (decimal_value (take i digits)) (get_or digits i 0 - 48) most

@@ -1,7 +1,7 @@
 mod DecimalLemmas
-pub mod Loaded
+pub mod LoadedLemmas
 pub mod OutsideLemmas
 pub mod PaddingLemmas
 mod ShelfLemmas
-pub mod StageLaws
-pub mod Written
+pub mod StageLemmas
+pub mod WrittenLemmas

@@ -4,7 +4,8 @@ use Rattle.std.proofs.lemmas.List.{drop-replicate}
 use Rattle.enum_base.specs.Padding.{padded, IsPadded}
 
 -- a row of zeros whose front was written over
-pub padded_written : (size : ℕ) (bytes front rest : List ℕ) → front ≡ bytes → rest ≡ drop (length bytes) (replicate size 0) → IsPadded size (length bytes) (front ++ rest)
+pub padded_written : (size : ℕ) (bytes front rest : List ℕ) → front ≡ bytes
+    → rest ≡ drop (length bytes) (replicate size 0) → IsPadded size (length bytes) (front ++ rest)
 padded_written size bytes front rest is zeros =
     let taken : take (length bytes) (front ++ rest) ≡ bytes = ap (λ f. take (length bytes) (f ++ rest)) is ∙ take-append_seam bytes rest in
     record {

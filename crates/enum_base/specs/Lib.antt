@@ -1,10 +1,12 @@
 pub mod Causes
 pub mod Decimal
+pub mod Escapes
 pub mod Folding
 pub mod Loading
 pub mod Memory
 pub mod Outside
 pub mod Padding
 pub mod Stages
+pub mod Texts
 pub mod Words
 pub mod Writing

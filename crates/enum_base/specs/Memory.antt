@@ -1,12 +1,16 @@
 -- Shelves, sources and sinks in memory, which tell all that they hold and fail at listed calls (this project's own).
-use Rattle.std.specs.Prelude.{◌≡◌, ◌↔◌, ℕ, ◌<◌, ◌≤◌, min, List, [], length, Contains, slice_get, unwrap_or, option_map, Option, Some, None, ⊤, Result, IsErr, IfOk, OnErr}
+use Rattle.std.specs.Prelude.{◌≡◌, ◌↔◌, ℕ, ◌<◌, ◌≤◌, min, List, [], length, Contains, slice_get, unwrap_or, option_map}
+use Rattle.std.specs.Prelude.{Option, Some, None, ⊤, Result, IsErr, IfOk, OnErr}
 use Rattle.enum_base.specs.Causes.{one_more}
 use Rattle.enum_base.specs.Outside.{File}
 
--- the files, the bytes left of the fetched one, the numbers of the calls that fail, and how many calls were made and failed
+-- the files, the bytes left of the fetched one, how many were given of it and at most of one, the numbers of the calls
+-- that fail, and how many calls were made and failed
 pub record MemoryShelf : Type 0 where
   pub files : List File
   pub left : List ℕ
+  pub given : ℕ
+  pub most_given : ℕ
   pub failing : List ℕ
   pub calls : ℕ
   pub faults : ℕ
@@ -19,7 +23,7 @@ pub record MemorySource : Type 0 where
   pub faults : ℕ
 
 -- the bytes held, the most taken by one write, the numbers of the calls that fail, how many calls were made and failed,
--- and how many of these failed for want of memory
+-- and how many of these failed out of memory
 pub record MemorySink : Type 0 where
   pub held : List ℕ
   pub most : ℕ

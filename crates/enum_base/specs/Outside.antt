@@ -33,14 +33,22 @@ abbrev pub EndsAtEnd : ℕ → Option (List ℕ) → Type 0
 EndsAtEnd n None = ⊤
 EndsAtEnd n (Some left) = (n ≡ 0) ↔ (left ≡ [])
 
--- the bytes held, with more behind them
+-- the bytes held, with more after them
 abbrev pub with_more : Option (List ℕ) → List ℕ → Option (List ℕ)
 with_more held more = option_map (λ bytes. bytes ++ more) held
 
--- what a shelf tells: the files and the bytes left of the fetched one, and how many calls failed
+-- how many bytes of a file were given, and the most that were of one file
+pub record GivenBytes : Type 0 where
+  pub now : ℕ
+  pub most : ℕ
+
+-- what a shelf tells: the files and the bytes left of the fetched one; and every shelf, a real one too, how many bytes
+-- were given since the last fetch that answered, the most that were between two of these, and how many calls failed
 pub record ShelfState : Type 0 where
   pub files : Option (List File)
   pub left : Option (List ℕ)
+  pub given : ℕ
+  pub most_given : ℕ
   pub faults : ℕ
 
 -- what a source tells: the bytes left, and how many calls failed

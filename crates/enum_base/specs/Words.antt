@@ -1,4 +1,4 @@
--- How a fault is printed: its name, and its fields behind it (this project's own).
+-- How a fault is printed: its name, and its fields after it (this project's own).
 use Rattle.std.specs.Prelude.{ℕ, List, ◌++◌, codes, decimal}
 
 -- a fault by its name, and a number

@@ -1,6 +1,7 @@
 //! Bytes in a row of fixed size.
 ghost use Rattle.std.specs.Prelude.{◌≡◌, ◌<◌, ◌≤◌, ◌+◌, ◌↔◌, [], ◌∷◌, ◌++◌, length, IsTrue};
 
+use itoa::{Buffer as Digits, Integer};
 use std::marker::Model;
 
 /// At most `CAP` bytes, which take no memory beyond their row.
@@ -69,5 +70,15 @@ impl<const CAP: usize> Buffer<CAP> {
         let row = &mut self.row[..];
         row[self.len..self.len + bytes.len()].copy_from_slice(bytes);
         self.len += bytes.len();
+    }
+
+    /// Appends the number in decimal digits: at most 5 bytes of a `u16`, 10 of a `u32`, 20 of a `u64` or a `usize`.
+    pub fn push_number<I: Integer>(&mut self, number: I)
+        requires { length self.old + I.MAX_STR_LEN ≤ CAP }
+        ensures value { self.new ≡ self.old ++ I.text number }
+        ensures most { length self.new ≤ length self.old + I.MAX_STR_LEN }
+    {
+        let mut digits = Digits::new();
+        self.push_slice(digits.format(number).as_bytes());
     }
 }

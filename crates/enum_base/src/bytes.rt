@@ -45,6 +45,20 @@ impl<A: Allocator> Bytes<A> {
         Ok(())
     }
 
+    /// Appends both, or neither.
+    pub fn push_both(&mut self, first: &[u8], second: &[u8]) -> Result<(), MemoryFault>
+        ensures ok { OnOk result (self.new ≡ self.old ++ (first.now ++ second.now)) }
+        ensures err { OnErr result (self.new ≡ self.old) }
+    {
+        let held = self.items.len();
+        self.push_slice(first)?;
+        let pushed = self.push_slice(second);
+        if pushed.is_err() {
+            self.truncate(held);
+        }
+        pushed
+    }
+
     /// Keeps the first `len` bytes; where there are no more than these, nothing changes.
     pub fn truncate(&mut self, len: usize)
         ensures { self.new ≡ take len self.old }

@@ -1,7 +1,7 @@
-//! Want of memory, and faults of the outside.
+//! Running out of memory, and faults of the outside.
 use std::alloc::{AllocError, AllocFailed};
 
-/// Memory was wanting.
+/// Out of memory.
 #[derive(Clone, Copy, Debug, PartialEq, Eq)]
 pub struct MemoryFault;
 

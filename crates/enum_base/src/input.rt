@@ -32,7 +32,8 @@ impl From<MemoryFault> for LoadFault {
     }
 }
 
-/// Reads an input to its end, which may have at most `most` bytes. At most 4,096 bytes more are taken of it.
+/// Reads an input to its end, which may have at most `most` bytes. Unless a read fails, at most 4,096 bytes more are
+/// taken of it.
 pub fn load<I: Source>(alloc: Global, most: usize, input: &mut I) -> Result<Bytes, LoadFault>
     ensures bytes { IfOk result (λ bytes. WhereTold (I.state input.old).left (λ left. bytes ≡ left)) }
     ensures short { IfOk result (λ bytes. length bytes ≤ most) }

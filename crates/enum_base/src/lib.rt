@@ -5,8 +5,10 @@
 mod buffer;
 mod bytes;
 mod calls;
+mod escape;
 mod fault;
 mod fold;
+mod given;
 mod input;
 mod list;
 mod mem_shelf;
@@ -21,8 +23,10 @@ mod write;
 
 pub use buffer::Buffer;
 pub use bytes::Bytes;
+pub use escape::{decimal_escape, escaped_byte};
 pub use fault::{Failed, MemoryFault};
 pub use fold::{fold_byte, same_folded};
+pub use given::Given;
 pub use input::{LoadFault, load};
 pub use list::{List, Ranks};
 pub use mem_shelf::MemShelf;

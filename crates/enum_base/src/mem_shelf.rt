@@ -1,11 +1,12 @@
 //! A shelf in memory.
-ghost use Rattle.std.specs.Prelude.{◌≡◌, ◌↔◌, ◌<◌, ◌≤◌, [], ◌∷◌, ◌++◌, take, drop, length, position, bytes_eq, Contains, Option, Some, IsSome, unwrap_or, IsErr, IfOk, OnOk, OnErr};
-ghost use Rattle.enum_base.specs.Causes.{HasCause, one_more};
+ghost use Rattle.std.specs.Prelude.{◌≡◌, ◌↔◌, ◌<◌, ◌≤◌, max, [], ◌∷◌, ◌++◌, take, drop, length, position, bytes_eq};
+ghost use Rattle.std.specs.Prelude.{Contains, Option, Some, None, IsSome, unwrap_or, IsErr, IfOk, OnOk, OnErr};
+ghost use Rattle.enum_base.specs.Causes.{HasCause, many_more, one_more};
 ghost use Rattle.enum_base.specs.Outside.{Finds, Opens, AreFirst, EndsAtEnd, after, file_of};
 ghost use Rattle.enum_base.specs.Memory.{ReadsListed, chosen_bytes, IsPlace};
 
 use crate::calls::{Calls, copy_front};
-use crate::{Bytes, Failed, MemoryFault, Ranks, Shelf};
+use crate::{Bytes, Failed, Given, MemoryFault, Ranks, Shelf};
 use std::alloc::Global;
 use std::marker::Model;
 
@@ -18,6 +19,7 @@ pub struct MemShelf {
     // the place of the fetched file, and how much of it was read
     chosen: Option<usize>,
     at: usize,
+    given: Given,
     calls: Calls,
 }
 
@@ -30,6 +32,8 @@ impl Model for MemShelf {
     ghost view = { λ s. record {
       files = s.files.items;
       left = drop s.at (chosen_bytes s.files.items s.chosen);
+      given = s.given.now;
+      most_given = s.given.most;
       failing = s.calls.failing;
       calls = s.calls.made;
       faults = s.calls.faults;
@@ -41,13 +45,14 @@ impl Model for MemShelf {
 impl MemShelf {
     /// An empty shelf, which takes no memory. Each call whose number `failing` has will fail.
     pub fn new(alloc: Global, failing: Ranks) -> Self
-        ensures { result ≡ record { files = []; left = []; failing = failing; calls = 0; faults = 0 } }
+        ensures { result ≡ record { files = []; left = []; given = 0; most_given = 0; failing = failing; calls = 0; faults = 0 } }
     {
         MemShelf {
             alloc,
             files: Vec::new(alloc),
             chosen: None,
             at: 0,
+            given: Given::none(),
             calls: Calls::new(failing),
         }
     }
@@ -67,12 +72,16 @@ impl MemShelf {
 }
 
 impl Shelf for MemShelf {
-    ghost state = { λ s. record { files = Some s.files; left = Some s.left; faults = s.faults } };
+    ghost state = { λ s. record { files = Some s.files; left = Some s.left; given = s.given; most_given = s.most_given; faults = s.faults } };
 
     fn fetch(&mut self, name: &str) -> Result<bool, Failed>
         ensures files { Some self.new.files ≡ Some self.old.files }
         ensures found { IfOk result (λ found. Finds (Some self.old.files) name.now found) }
         ensures left { IfOk result (λ _. Opens (Some self.old.files) name.now (Some self.new.left)) }
+        ensures untold { Some self.old.files ≡ None → Some self.new.left ≡ None }
+        ensures begins { OnOk result (self.new.given ≡ 0) }
+        ensures uncounted { OnErr result (self.new.given ≡ self.old.given) }
+        ensures greatest { self.new.most_given ≡ self.old.most_given }
         ensures cause { HasCause self.old.faults self.new.faults result }
         // It fails exactly at the listed calls, and is counted.
         ensures listed { IsErr result ↔ Contains self.old.failing (one_more self.old.calls) }
@@ -84,6 +93,7 @@ impl Shelf for MemShelf {
         self.calls.begin()?;
         self.chosen = place_of(&self.files, name.as_bytes());
         self.at = 0;
+        self.given.begin();
         Ok(self.chosen.is_some())
     }
 
@@ -92,15 +102,21 @@ impl Shelf for MemShelf {
         ensures bound { IfOk result (λ n. n ≤ length buf.new) }
         ensures given { IfOk result (λ n. AreFirst n (take n buf.new) (Some self.old.left)) }
         ensures left { IfOk result (λ n. Some self.new.left ≡ after n (Some self.old.left)) }
+        ensures untold { Some self.old.left ≡ None → Some self.new.left ≡ None }
+        ensures counts { IfOk result (λ n. self.new.given ≡ many_more self.old.given n) }
+        ensures uncounted { OnErr result ((self.new.given ≡ self.old.given) × (self.new.most_given ≡ self.old.most_given)) }
+        ensures greatest { OnOk result (self.new.most_given ≡ max self.old.most_given self.new.given) }
         ensures ends { IfOk result (λ n. 0 < length buf.new → EndsAtEnd n (Some self.old.left)) }
         ensures cause { HasCause self.old.faults self.new.faults result }
-        ensures reads { ReadsListed self.old.failing self.old.calls self.new.calls self.old.faults self.new.faults self.old.left self.new.left (length buf.new) result }
+        ensures reads { ReadsListed self.old.failing self.old.calls self.new.calls self.old.faults self.new.faults
+            self.old.left self.new.left (length buf.new) result }
         ensures failing { self.new.failing ≡ self.old.failing }
     {
         self.calls.begin()?;
         let bytes = bytes_of(&self.files, self.chosen);
         let count = copy_front(&bytes[self.at..], buf);
         self.at += count;
+        self.given.add(count);
         Ok(count)
     }
 }

@@ -68,9 +68,9 @@ impl Sink for MemSink {
         ensures appended { IfOk result (λ n. Some self.new.held ≡ with_more (Some self.old.held) (take n bytes.now)) }
         ensures kept { OnErr result (Some self.new.held ≡ Some self.old.held) }
         ensures cause { HasCause self.old.faults self.new.faults result }
-        // It fails at the listed calls, and else only for want of memory, which raises `short`.
+        // It fails at the listed calls, and else only out of memory, which raises `short`.
         ensures listed { Contains self.old.failing (one_more self.old.calls) → IsErr result × (self.new.short ≡ self.old.short) }
-        ensures wanting { OnErr result (Contains self.old.failing (one_more self.old.calls) ⊎ (self.new.short ≡ one_more self.old.short)) }
+        ensures short { OnErr result (Contains self.old.failing (one_more self.old.calls) ⊎ (self.new.short ≡ one_more self.old.short)) }
         ensures ample { OnOk result (self.new.short ≡ self.old.short) }
         ensures counted { self.new.calls ≡ one_more self.old.calls }
         ensures failing { self.new.failing ≡ self.old.failing }

@@ -1,5 +1,5 @@
 //! A source in memory.
-ghost use Rattle.std.specs.Prelude.{◌≡◌, ◌<◌, ◌≤◌, take, length, Some, IfOk};
+ghost use Rattle.std.specs.Prelude.{◌≡◌, ◌<◌, ◌≤◌, take, length, Some, None, IfOk};
 ghost use Rattle.enum_base.specs.Causes.{HasCause};
 ghost use Rattle.enum_base.specs.Memory.{ReadsListed};
 ghost use Rattle.enum_base.specs.Outside.{AreFirst, EndsAtEnd, after};
@@ -54,9 +54,11 @@ impl Source for MemSource {
         ensures bound { IfOk result (λ n. n ≤ length buf.new) }
         ensures given { IfOk result (λ n. AreFirst n (take n buf.new) (Some self.old.left)) }
         ensures left { IfOk result (λ n. Some self.new.left ≡ after n (Some self.old.left)) }
+        ensures untold { Some self.old.left ≡ None → Some self.new.left ≡ None }
         ensures ends { IfOk result (λ n. 0 < length buf.new → EndsAtEnd n (Some self.old.left)) }
         ensures cause { HasCause self.old.faults self.new.faults result }
-        ensures reads { ReadsListed self.old.failing self.old.calls self.new.calls self.old.faults self.new.faults self.old.left self.new.left (length buf.new) result }
+        ensures reads { ReadsListed self.old.failing self.old.calls self.new.calls self.old.faults self.new.faults
+            self.old.left self.new.left (length buf.new) result }
         ensures failing { self.new.failing ≡ self.old.failing }
     {
         self.calls.begin()?;

@@ -1,9 +1,8 @@
 //! Numbers in decimal digits.
-ghost use Rattle.std.specs.Prelude.{◌≡◌, ◌≤◌, ◌+◌, ◌++◌, ◌^◌, min, IfOk, OnOk, decimal};
+ghost use Rattle.std.specs.Prelude.{◌≡◌, ◌≤◌, ◌+◌, ◌++◌, ◌^◌, min, IfOk, OnOk, OnErr, decimal};
 ghost use Rattle.enum_base.specs.Decimal.{decimal_value, first_non_digit, number_up_to};
 
-use crate::{Bytes, MemoryFault};
-use itoa::Buffer;
+use crate::{Buffer, Bytes, MemoryFault};
 
 // More than any number that is asked for.
 const CAP: u64 = 1 << 32;
@@ -71,11 +70,12 @@ fn capped_value(digits: &[u8]) -> u64
     value
 }
 
-/// Appends the front and the number.
+/// Appends the front and the number in decimal digits, or nothing.
 pub fn push_number(front: &[u8], number: usize, out: &mut Bytes) -> Result<(), MemoryFault>
-    ensures { OnOk result (out.new ≡ out.old ++ (front.now ++ decimal number)) }
+    ensures ok { OnOk result (out.new ≡ out.old ++ (front.now ++ decimal number)) }
+    ensures err { OnErr result (out.new ≡ out.old) }
 {
-    let mut digits = Buffer::new();
-    out.push_slice(front)?;
-    out.push_slice(digits.format(number).as_bytes())
+    let mut digits = Buffer::<20>::new();
+    digits.push_number(number);
+    out.push_both(front, digits.as_slice())
 }

@@ -1,6 +1,6 @@
 //! Where files and input come from and where output goes.
-ghost use Rattle.std.specs.Prelude.{◌≡◌, ◌<◌, ◌≤◌, take, length, IfOk, OnErr};
-ghost use Rattle.enum_base.specs.Causes.{HasCause};
+ghost use Rattle.std.specs.Prelude.{◌≡◌, ◌<◌, ◌≤◌, max, take, length, None, IfOk, OnOk, OnErr};
+ghost use Rattle.enum_base.specs.Causes.{HasCause, many_more};
 ghost use Rattle.enum_base.specs.Outside.{ShelfState, SinkState, SourceState, Finds, Opens, AreFirst, EndsAtEnd, after, with_more};
 
 use crate::Failed;
@@ -15,6 +15,10 @@ pub trait Shelf {
         ensures files { (state self.new).files ≡ (state self.old).files }
         ensures found { IfOk result (λ found. Finds (state self.old).files name.now found) }
         ensures left { IfOk result (λ _. Opens (state self.old).files name.now (state self.new).left) }
+        ensures untold { (state self.old).files ≡ None → (state self.new).left ≡ None }
+        ensures begins { OnOk result ((state self.new).given ≡ 0) }
+        ensures uncounted { OnErr result ((state self.new).given ≡ (state self.old).given) }
+        ensures greatest { (state self.new).most_given ≡ (state self.old).most_given }
         ensures cause { HasCause (state self.old).faults (state self.new).faults result };
 
     /// Reads some bytes of the file into the front of `buf`, and says how many: 0 is the end, where
@@ -24,6 +28,11 @@ pub trait Shelf {
         ensures bound { IfOk result (λ n. n ≤ length buf.new) }
         ensures given { IfOk result (λ n. AreFirst n (take n buf.new) (state self.old).left) }
         ensures left { IfOk result (λ n. (state self.new).left ≡ after n (state self.old).left) }
+        ensures untold { (state self.old).left ≡ None → (state self.new).left ≡ None }
+        ensures counts { IfOk result (λ n. (state self.new).given ≡ many_more (state self.old).given n) }
+        ensures uncounted { OnErr result (((state self.new).given ≡ (state self.old).given)
+            × ((state self.new).most_given ≡ (state self.old).most_given)) }
+        ensures greatest { OnOk result ((state self.new).most_given ≡ max (state self.old).most_given (state self.new).given) }
         ensures ends { IfOk result (λ n. 0 < length buf.new → EndsAtEnd n (state self.old).left) }
         ensures cause { HasCause (state self.old).faults (state self.new).faults result };
 }
@@ -38,6 +47,7 @@ pub trait Source {
         ensures bound { IfOk result (λ n. n ≤ length buf.new) }
         ensures given { IfOk result (λ n. AreFirst n (take n buf.new) (state self.old).left) }
         ensures left { IfOk result (λ n. (state self.new).left ≡ after n (state self.old).left) }
+        ensures untold { (state self.old).left ≡ None → (state self.new).left ≡ None }
         ensures ends { IfOk result (λ n. 0 < length buf.new → EndsAtEnd n (state self.old).left) }
         ensures cause { HasCause (state self.old).faults (state self.new).faults result };
 }

@@ -3,7 +3,6 @@ ghost use Rattle.std.specs.Prelude.{◌≡◌, ◌≤◌, length};
 ghost use Rattle.enum_base.specs.Words.{fault_at};
 
 use crate::Buffer;
-use itoa::Buffer as Digits;
 
 /// The name of a fault and its fields, with a space between: at most 1,100 bytes. Each fault tells them in the crate
 /// that it stands in.
@@ -24,9 +23,8 @@ pub fn fault_at(name: &str, at: usize) -> FaultWords
     requires { length name.now ≤ 40 }
     ensures { result ≡ fault_at name.now at }
 {
-    let mut digits = Digits::new();
     let mut words = fault_named(name);
     words.push(b' ');
-    words.push_slice(digits.format(at).as_bytes());
+    words.push_number(at);
     words
 }

@@ -1,7 +1,7 @@
 -- What is asked, stage by stage.
 use Rattle.std.proofs.Common.{◌≡◌, inl, inr, ℕ, List, Option, Some, None, option_map, Result, Ok, Err, refl, sym, ap, subst, ◌∙◌}
 use Rattle.enum_app.specs.Number.{digits_of}
-use Rattle.enum_app.proofs.NumberFaults.{no_fault, one_fault}
+use Rattle.enum_app.proofs.NumberFaultsLemmas.{no_fault, one_fault}
 use Rattle.naptr_data.specs.Zones.{Labels}
 use Rattle.service_field.specs.Wanted.{wanted_text}
 use Rattle.service_field.specs.declared.fault.ServiceFault.{ServiceFault}
@@ -18,7 +18,7 @@ use Rattle.enum_top.specs.Running.{wanted_or_cause}
 use Rattle.enum_base.specs.Stages.Then.{goes, stops}
 use Rattle.enum_top.specs.declared.cause.Cause.{Cause}
 use Rattle.enum_top.specs.declared.cause.Cause.TheVariants.{Number, Domain}
-use Rattle.enum_base.proofs.StageLaws.{IsSingle, IsSingle-is, IsSingle-then}
+use Rattle.enum_base.proofs.StageLemmas.{IsSingle, IsSingle-is, IsSingle-then}
 
 -- a string has one reading, or one fault
 pub IsSingle-strings : (app : AppName) (text : List ℕ) → IsSingle (Strings app text)

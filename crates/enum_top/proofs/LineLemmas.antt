@@ -1,6 +1,6 @@
 -- The line of a file, in two writes.
 use Rattle.std.proofs.Common.{◌≡◌, List, ℕ, [], ◌∷◌, ◌++◌, sym, append_assoc}
-use Rattle.enum_base.proofs.Written.{Takes-first, Takes-same, Takes-second}
+use Rattle.enum_base.proofs.WrittenLemmas.{Takes-first, Takes-same, Takes-second}
 use Rattle.enum_base.specs.Causes.{Rose}
 use Rattle.enum_base.specs.Outside.{SinkState}
 use Rattle.enum_base.specs.Writing.{Gains, Takes}

@@ -1,6 +1,6 @@
 -- What `show` prints is one text.
 use Rattle.std.proofs.Common.{◌≡◌, inl, inr, ℕ, List, Some, Result, Ok, Err, sym, ap, ◌∙◌}
-use Rattle.enum_base.proofs.StageLaws.{IsSingle, IsSingle-is, IsSingle-then}
+use Rattle.enum_base.proofs.StageLemmas.{IsSingle, IsSingle-is, IsSingle-then}
 use Rattle.dns_wire.specs.Laws.{NotBoth, OneBreak, OneMessage}
 use Rattle.dns_wire.specs.declared.message.Message as wire
 use Rattle.enum_top.specs.Showing.{Digits, Messages, Shows, digits_in}

@@ -12,7 +12,7 @@ use Rattle.zone_token.specs.declared.fault.TextWhy.{TextWhy}
 use Rattle.enum_top.specs.ZoneFiles.{Adds, Builds, Texts, ZonesFrom}
 use Rattle.enum_top.specs.declared.cause.Cause.{Cause}
 use Rattle.enum_top.specs.declared.cause.Cause.TheVariants as cause
-use Rattle.enum_base.proofs.StageLaws.{IsSingle, IsSingle-is, IsSingle-then}
+use Rattle.enum_base.proofs.StageLemmas.{IsSingle, IsSingle-is, IsSingle-then}
 
 -- the laws of zone texts and of zones
 pub record AreLaws : Type 0 where

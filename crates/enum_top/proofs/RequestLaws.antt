@@ -2,7 +2,7 @@
 use Rattle.std.proofs.Common.{◌≡◌, ℕ, List, [], take, Option, Some, None, Result, Ok, Err, refl, sym, ap, subst, ◌∙◌}
 use Rattle.std.specs.Prelude.{IsSome}
 use Rattle.dns_name.specs.Name.{folded_labels}
-use Rattle.enum_base.proofs.StageLaws.{IsSingle, IsSingle-then}
+use Rattle.enum_base.proofs.StageLemmas.{IsSingle, IsSingle-then}
 use Rattle.enum_base.specs.Outside.{File}
 use Rattle.zone_build.specs.Plain as plain
 use Rattle.zone_build.specs.Zone.{Zone}

@@ -6,7 +6,7 @@ use Rattle.dns_wire.specs.Laws.{MessageOrBreak}
 use Rattle.dns_wire.specs.Message.{Breaks, Spells}
 use Rattle.dns_wire.specs.declared.decode_fault.DecodeFault.{DecodeFault}
 use Rattle.dns_wire.specs.declared.message.Message as wire
-use Rattle.enum_base.proofs.StageLaws.{IsTotal, IsTotal-is, IsTotal-then}
+use Rattle.enum_base.proofs.StageLemmas.{IsTotal, IsTotal-is, IsTotal-then}
 use Rattle.hex.specs.Hex.{IsBytes, decode_of}
 use Rattle.hex.specs.declared.error.FromHexError.{FromHexError}
 use Rattle.enum_top.specs.Inputs.{Inputs, fitting_input}

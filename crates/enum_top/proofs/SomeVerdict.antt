@@ -7,7 +7,7 @@ use Rattle.dns_wire.specs.Laws.{MessageOrBreak}
 use Rattle.dns_name.specs.Name.{folded_labels}
 use Rattle.enum_app.specs.Number.{IsNumber, HasNumberFault, digits_of, key_labels, plus}
 use Rattle.enum_app.specs.declared.number.NumberFault.{NumberFault}
-use Rattle.enum_base.proofs.StageLaws.{IsTotal, IsTotal-is, IsTotal-then}
+use Rattle.enum_base.proofs.StageLemmas.{IsTotal, IsTotal-is, IsTotal-then}
 use Rattle.enum_base.specs.Outside.{File}
 use Rattle.naptr_data.specs.Laws.{RulesAreApart}
 use Rattle.naptr_data.specs.Zones as plain

@@ -4,7 +4,7 @@ use Rattle.std.specs.Prelude.{Contains}
 use Rattle.std.specs.List.{AllByRecursion}
 use Rattle.dns_name.proofs.NameLemmas.{AllByRecursion-append}
 use Rattle.dns_wire.specs.declared.record.Record.{Record}
-use Rattle.enum_base.proofs.StageLaws.{IsTotal, IsTotal-is, IsTotal-then}
+use Rattle.enum_base.proofs.StageLemmas.{IsTotal, IsTotal-is, IsTotal-then}
 use Rattle.enum_base.specs.Outside.{File, file_of}
 use Rattle.enum_base.specs.Stages.Then.{goes, stops}
 use Rattle.naptr_data.specs.Zones.{Labels}

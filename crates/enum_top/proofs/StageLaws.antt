@@ -1,6 +1,6 @@
 -- Stages that come to one verdict.
 use Rattle.std.proofs.Common.{◌≡◌, Result, sym, ap, ◌∙◌}
-use Rattle.enum_base.proofs.StageLaws.{IsSingle}
+use Rattle.enum_base.proofs.StageLemmas.{IsSingle}
 use Rattle.enum_top.specs.Verdicts.{Whole, whole, Verdict}
 use Rattle.enum_top.specs.declared.cause.Cause.{Cause}
 use Rattle.enum_top.specs.declared.status.Printed.{Printed}

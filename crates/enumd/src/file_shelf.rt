@@ -2,44 +2,53 @@
 ghost use Rattle.std.specs.Prelude.{◌≡◌, None};
 
 use crate::faults::Faults;
-use enum_base::{Failed, Shelf};
+use enum_base::{Failed, Given, Shelf};
 use std::fs;
 use std::io::{ErrorKind, Read};
 use std::marker::Model;
 use std::rt::Files;
 
-/// Files by their paths. It tells nothing of what they hold, and contracts see it as its count of
+/// Files by their paths. It tells nothing of what they hold; contracts see how many bytes were given, and the count of
 /// faults, which rises at each error.
 #[derive(Drop)]
 pub(crate) struct FileShelf<'a, R: Files> {
     runtime: &'a R,
     open: Option<R::File>,
+    given: Given,
     faults: Faults,
 }
 
 impl<'a, R: Files> Model for FileShelf<'a, R> {
-    ghost use Rattle.std.specs.Prelude.{ℕ};
+    ghost use Rattle.std.specs.Prelude.{None};
+    ghost use Rattle.enum_base.specs.Outside.{ShelfState};
 
-    ghost Value = { ℕ };
+    ghost Value = { ShelfState };
 
-    ghost view = { λ s. s.faults };
+    ghost view = { λ s. record {
+      files = None;
+      left = None;
+      given = s.given.now;
+      most_given = s.given.most;
+      faults = s.faults;
+    } };
 }
 
 impl<'a, R: Files> FileShelf<'a, R> {
     /// A shelf with no file open and no fault counted.
     pub(crate) fn new(runtime: &'a R) -> Self
-        ensures { result ≡ 0 }
+        ensures { result ≡ record { files = None; left = None; given = 0; most_given = 0; faults = 0 } }
     {
         FileShelf {
             runtime,
             open: None,
+            given: Given::none(),
             faults: Faults::none(),
         }
     }
 }
 
 impl<R: Files> Shelf for FileShelf<'_, R> {
-    ghost state = { λ s. record { files = None; left = None; faults = s } };
+    ghost state = { λ s. s };
 
     // A name that the system does not find is no file. Every other error is a fault.
     fn fetch(&mut self, name: &str) -> Result<bool, Failed> {
@@ -47,20 +56,28 @@ impl<R: Files> Shelf for FileShelf<'_, R> {
         match fs::open(self.runtime, name) {
             Ok(file) => {
                 self.open = Some(file);
+                self.given.begin();
                 Ok(true)
             }
-            Err(error) if error.kind() == ErrorKind::NotFound => Ok(false),
+            Err(error) if error.kind() == ErrorKind::NotFound => {
+                self.given.begin();
+                Ok(false)
+            }
             Err(_) => Err(self.faults.raise()),
         }
     }
 
     // A folder opens like a file, and a read of it is a fault.
     fn read(&mut self, buf: &mut [u8]) -> Result<usize, Failed> {
-        let Some(file) = &mut self.open else {
-            return Ok(0);
+        let read = match &mut self.open {
+            Some(file) => file.read(buf),
+            None => Ok(0),
         };
-        match file.read(buf) {
-            Ok(count) => Ok(count),
+        match read {
+            Ok(count) => {
+                self.given.add(count);
+                Ok(count)
+            }
             Err(_) => Err(self.faults.raise()),
         }
     }

@@ -3,16 +3,16 @@ use Rattle.std.proofs.Common.{◌≡◌, ◌⊎◌, inl, inr, zero, suc, ◌≤�
 use Rattle.std.specs.Prelude.{Contains}
 use Rattle.std.proofs.lemmas.List.Elements.{Contains-append_right}
 
--- an item of a longer list is its head or behind it
-pub head_or_behind : {X : Type 0} (x : X) (xs : List X) (y : X) → Contains (x ∷ xs) y → (y ≡ x) ⊎ Contains xs y
-head_or_behind x xs y (zero, l, e) = inl (sym e)
-head_or_behind x xs y (suc k, l, e) = inr (k, omega arith, e)
+-- an item of a longer list is its head or after it
+pub head_or_after : {X : Type 0} (x : X) (xs : List X) (y : X) → Contains (x ∷ xs) y → (y ≡ x) ⊎ Contains xs y
+head_or_after x xs y (zero, l, e) = inl (sym e)
+head_or_after x xs y (suc k, l, e) = inr (k, omega arith, e)
 
 pub Contains-head : {X : Type 0} (x : X) (xs : List X) → Contains (x ∷ xs) x
 Contains-head x xs = (zero, omega arith, refl)
 
-pub Contains-behind : {X : Type 0} (x : X) (xs : List X) (y : X) → Contains xs y → Contains (x ∷ xs) y
-Contains-behind x xs y (k, l, e) = (suc k, omega arith, e)
+pub Contains-after : {X : Type 0} (x : X) (xs : List X) (y : X) → Contains xs y → Contains (x ∷ xs) y
+Contains-after x xs y (k, l, e) = (suc k, omega arith, e)
 
 pub Contains-none : {X : Type 0} (y : X) → Contains [] y → ⊥
 Contains-none y (k, l, e) = absurd (omega arith)
@@ -20,30 +20,30 @@ Contains-none y (k, l, e) = absurd (omega arith)
 pub Contains-middle : {X : Type 0} (xs : List X) (y : X) (ys : List X) → Contains (xs ++ y ∷ ys) y
 Contains-middle xs y ys = Contains-append_right xs (y ∷ ys) y (Contains-head y ys)
 
--- one cut of a list comes before another: its element stands before the other's, and the other's behind it
-pub record IsEarlier {X : Type 0} (before : List X) (x : X) (behind before' : List X) (x' : X) (behind' : List X) : Type 0 where
+-- one cut of a list comes before another: its element stands before the other's, and the other's after it
+pub record IsEarlier {X : Type 0} (before : List X) (x : X) (after before' : List X) (x' : X) (after' : List X) : Type 0 where
   pub middle : List X
   pub front : before' ≡ before ++ x ∷ middle
-  pub back : behind ≡ middle ++ x' ∷ behind'
+  pub back : after ≡ middle ++ x' ∷ after'
 
 -- two cuts of one list are one cut, or one comes before the other
 abbrev AreCuts : {X : Type 0} → List X → X → List X → List X → X → List X → Type 0
-AreCuts before x behind before' x' behind' =
-    ((before ≡ before') × (x ≡ x') × (behind ≡ behind')) ⊎ (IsEarlier before x behind before' x' behind' ⊎ IsEarlier before' x' behind' before x behind)
+AreCuts before x after before' x' after' =
+    ((before ≡ before') × (x ≡ x') × (after ≡ after')) ⊎ (IsEarlier before x after before' x' after' ⊎ IsEarlier before' x' after' before x after)
 
-AreCuts-more : {X : Type 0} (y z : X) (before : List X) (x : X) (behind before' : List X) (x' : X) (behind' : List X) → y ≡ z → AreCuts before x behind before' x' behind' → AreCuts (y ∷ before) x behind (z ∷ before') x' behind'
-AreCuts-more y z before x behind before' x' behind' e (inl same) = let f : before ≡ before' = same.0 in inl (cc, same.1, same.2)
-AreCuts-more y z before x behind before' x' behind' e (inr (inl c)) =
+AreCuts-more : {X : Type 0} (y z : X) (before : List X) (x : X) (after before' : List X) (x' : X) (after' : List X) → y ≡ z → AreCuts before x after before' x' after' → AreCuts (y ∷ before) x after (z ∷ before') x' after'
+AreCuts-more y z before x after before' x' after' e (inl same) = let f : before ≡ before' = same.0 in inl (cc, same.1, same.2)
+AreCuts-more y z before x after before' x' after' e (inr (inl c)) =
     let f = c.front in inr (inl (record { middle = c.middle; front = cc; back = c.back }))
-AreCuts-more y z before x behind before' x' behind' e (inr (inr c)) =
+AreCuts-more y z before x after before' x' after' e (inr (inr c)) =
     let f = c.front in inr (inr (record { middle = c.middle; front = cc; back = c.back }))
 
-pub two_cuts : {X : Type 0} (before : List X) (x : X) (behind before' : List X) (x' : X) (behind' : List X) → before ++ x ∷ behind ≡ before' ++ x' ∷ behind' → ((before ≡ before') × (x ≡ x') × (behind ≡ behind')) ⊎ (IsEarlier before x behind before' x' behind' ⊎ IsEarlier before' x' behind' before x behind)
-two_cuts [] x behind [] x' behind' e = inl (refl, cc, cc)
-two_cuts [] x behind (z ∷ before') x' behind' e = inr (inl (record { middle = before'; front = cc; back = cc }))
-two_cuts (y ∷ before) x behind [] x' behind' e = inr (inr (record { middle = before; front = cc; back = cc }))
-two_cuts (y ∷ before) x behind (z ∷ before') x' behind' e =
-    AreCuts-more y z before x behind before' x' behind' (cc) (two_cuts before x behind before' x' behind' (cc))
+pub two_cuts : {X : Type 0} (before : List X) (x : X) (after before' : List X) (x' : X) (after' : List X) → before ++ x ∷ after ≡ before' ++ x' ∷ after' → ((before ≡ before') × (x ≡ x') × (after ≡ after')) ⊎ (IsEarlier before x after before' x' after' ⊎ IsEarlier before' x' after' before x after)
+two_cuts [] x after [] x' after' e = inl (refl, cc, cc)
+two_cuts [] x after (z ∷ before') x' after' e = inr (inl (record { middle = before'; front = cc; back = cc }))
+two_cuts (y ∷ before) x after [] x' after' e = inr (inr (record { middle = before; front = cc; back = cc }))
+two_cuts (y ∷ before) x after (z ∷ before') x' after' e =
+    AreCuts-more y z before x after before' x' after' (cc) (two_cuts before x after before' x' after' (cc))
 
 -- of two ends of one list the longer ends in the shorter
 pub ends_in : {X : Type 0} (front back front' back' : List X) → front ++ back ≡ front' ++ back' → length back' ≤ length back → (middle : List X) × (back ≡ middle ++ back')

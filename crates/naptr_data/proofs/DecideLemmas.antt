@@ -5,7 +5,7 @@ use Rattle.std.proofs.lemmas.Bool.Decides.{nat_tests}
 use Rattle.dns_name.specs.Name.{AreSame, IsBelow, folded_labels}
 use Rattle.naptr_data.specs.Zones.{Labels, Item, Owned, Zone, IsDelegated, Exists, Encloses}
 use Rattle.naptr_data.specs.Zones.Item.{rule, alias, delegation, other}
-use Rattle.naptr_data.proofs.CutLemmas.{Contains-none, Contains-head, Contains-behind, head_or_behind}
+use Rattle.naptr_data.proofs.CutLemmas.{Contains-none, Contains-head, Contains-after, head_or_after}
 use Rattle.naptr_data.proofs.BelowLemmas.{below_end, below_same_top, below_itself, below_trans, below_more}
 
 -- a fact or its opposite
@@ -61,14 +61,14 @@ one_or_none P each [] = inr none
 one_or_none P each (o ∷ items) = both (each o) (one_or_none P each items)
   where
     neither : (P o → ⊥) → (HasOne P items → ⊥) → HasOne P (o ∷ items) → ⊥
-    neither not not' (x, c, p) = elim (head_or_behind o items x c) [
+    neither not not' (x, c, p) = elim (head_or_after o items x c) [
       | inl here ↦ not (subst P here p)
-      | inr behind ↦ not' (x, behind, p)
+      | inr after ↦ not' (x, after, p)
     ]
 
     both : Either (P o) → Either (HasOne P items) → Either (HasOne P (o ∷ items))
     both (inl p) h = inl (o, Contains-head o items, p)
-    both (inr not) (inl (x, c, p)) = inl (x, Contains-behind o items x c, p)
+    both (inr not) (inl (x, c, p)) = inl (x, Contains-after o items x c, p)
     both (inr not) (inr not') = inr (neither not not')
 
 pub exists_or_not : (zone : Zone) (name : Labels) → Either (Exists zone name)

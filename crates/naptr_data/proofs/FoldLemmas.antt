@@ -4,9 +4,9 @@ use Rattle.std.proofs.lemmas.List.{map-append}
 use Rattle.std.proofs.lemmas.Bool.Decides.{nat_tests}
 use Rattle.enum_base.specs.Folding.{folded, folded_byte}
 use Rattle.dns_name.specs.Name.{AreSame, folded_labels}
-use Rattle.naptr_data.specs.Zones.{Labels, Item, Owned, Zone, Decides, NoneServes, IsDelegated, Exists, Encloses, star, IsSource, StandsAt, IsFirstAlias, AreRules, IsServed, IsOffer}
+use Rattle.naptr_data.specs.Zones.{Labels, Item, Owned, Zone, Decides, NoneServes, IsDelegated, Exists, Encloses, star, IsSource, HasItem, IsFirstAlias, AreRules, IsServed, IsOffer}
 use Rattle.naptr_data.specs.Zones.Item.{alias, rule}
-use Rattle.naptr_data.specs.declared.rule.Naptr.{Naptr}
+use Rattle.naptr_rule.specs.declared.rule.Naptr.{Naptr}
 use Rattle.naptr_data.specs.declared.offer.Offer.{Offer}
 use Rattle.naptr_data.specs.declared.offer.Offer.TheVariants as offer
 use Rattle.naptr_data.proofs.CutLemmas.{map_parts}
@@ -27,7 +27,7 @@ same_folded (label ∷ name) = let e = folded_again label in let f = same_folded
 decides_same : (zones : List Zone) (one other : Labels) (zone : Zone) → AreSame one other → Decides zones one zone → Decides zones other zone
 decides_same zones one other zone same d = record {
   before = d.before;
-  behind = d.behind;
+  after = d.after;
   parts = d.parts;
   above = below_same_name one other zone.apex same d.above;
   longer = λ z c b. d.longer z c (below_same_name other one z.apex (sym same) b);
@@ -79,14 +79,14 @@ source_same zone one other source same (inr (not, (encloser, e, is))) = found (e
         } in
         (star ∷ encloser', inr (λ x. not (exists_same zone other one (sym same) x), (encloser', closest, refl)), ap folded_labels is ∙ ap (λ l. folded star ∷ l) ends)
 
-stands_same : (items : List Owned) (one other : Labels) (item : Item) → AreSame one other → StandsAt items one item → StandsAt items other item
+stands_same : (items : List Owned) (one other : Labels) (item : Item) → AreSame one other → HasItem items one item → HasItem items other item
 stands_same items one other item same (owner, c, here) = (owner, c, here ∙ same)
 
 alias_same : (items : List Owned) (one other target : Labels) → AreSame one other → IsFirstAlias items one target → IsFirstAlias items other target
 alias_same items one other target same a = record {
   owner = a.owner;
   before = a.before;
-  behind = a.behind;
+  after = a.after;
   parts = a.parts;
   here = a.here ∙ same;
   first = λ earlier s. a.first earlier (stands_same a.before other one (alias earlier) (sym same) s);

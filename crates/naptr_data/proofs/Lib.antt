@@ -1,13 +1,7 @@
-pub mod BareLemmas
 pub mod BelowLemmas
 pub mod CutLemmas
 pub mod DecideLemmas
-pub mod FieldLemmas
 pub mod FoldLemmas
-pub mod InLemmas
 pub mod OfferLemmas
-pub mod PlaceLemmas
-pub mod RdataLemmas
 pub mod RisingLemmas
-pub mod RuleLemmas
 pub mod SomeLemmas

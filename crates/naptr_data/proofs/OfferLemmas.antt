@@ -2,9 +2,9 @@
 use Rattle.std.proofs.Common.{◌≡◌, ◌⊎◌, inl, inr, List, [], ◌∷◌, ◌++◌, refl, sym, ap, subst, ◌∙◌, arith, length-append}
 use Rattle.std.specs.Prelude.{Contains}
 use Rattle.dns_name.specs.Name.{IsBelow}
-use Rattle.naptr_data.specs.Zones.{Labels, Item, Owned, Zone, Decides, NoneServes, IsDelegated, Exists, Encloses, star, IsSource, StandsAt, IsFirstAlias, AreRules, IsServed, IsOffer}
+use Rattle.naptr_data.specs.Zones.{Labels, Item, Owned, Zone, Decides, NoneServes, IsDelegated, Exists, Encloses, star, IsSource, HasItem, IsFirstAlias, AreRules, IsServed, IsOffer}
 use Rattle.naptr_data.specs.Zones.Item.{alias}
-use Rattle.naptr_data.specs.declared.rule.Naptr.{Naptr}
+use Rattle.naptr_rule.specs.declared.rule.Naptr.{Naptr}
 use Rattle.naptr_data.specs.declared.offer.Offer.{Offer}
 use Rattle.naptr_data.specs.declared.offer.Offer.TheVariants as offer
 use Rattle.naptr_data.proofs.CutLemmas.{IsEarlier, two_cuts, Contains-middle}
@@ -13,18 +13,18 @@ use Rattle.naptr_data.proofs.RisingLemmas.{rising_same}
 
 -- a zone that decides is among the zones
 pub decides_among : (zones : List Zone) (name : Labels) (zone : Zone) → Decides zones name zone → Contains zones zone
-decides_among zones name zone d = subst (λ zs. Contains zs zone) (sym d.parts) (Contains-middle d.before zone d.behind)
+decides_among zones name zone d = subst (λ zs. Contains zs zone) (sym d.parts) (Contains-middle d.before zone d.after)
 
-earlier_zone : (zones : List Zone) (name : Labels) (one other : Zone) (a : Decides zones name one) (b : Decides zones name other) → IsEarlier a.before one a.behind b.before other b.behind → ⊥
+earlier_zone : (zones : List Zone) (name : Labels) (one other : Zone) (a : Decides zones name one) (b : Decides zones name other) → IsEarlier a.before one a.after b.before other b.after → ⊥
 earlier_zone zones name one other a b e =
     let shorter = b.longer one (subst (λ zs. Contains zs one) (sym e.front) (Contains-middle a.before one e.middle)) a.above in
-    let longer = a.longest other (subst (λ zs. Contains zs other) (sym e.back) (Contains-middle e.middle other b.behind)) b.above in
+    let longer = a.longest other (subst (λ zs. Contains zs other) (sym e.back) (Contains-middle e.middle other b.after)) b.above in
     absurd (omega (arith, shorter, longer))
 
 -- one zone decides of a name
 pub one_zone : (zones : List Zone) (name : Labels) (one other : Zone) → Decides zones name one → Decides zones name other → one ≡ other
 one_zone zones name one other a b =
-    elim (two_cuts a.before one a.behind b.before other b.behind (sym a.parts ∙ b.parts)) [
+    elim (two_cuts a.before one a.after b.before other b.after (sym a.parts ∙ b.parts)) [
       | inl same ↦ same.1
       | inr (inl e) ↦ absurd (earlier_zone zones name one other a b e)
       | inr (inr e) ↦ absurd (earlier_zone zones name other one b a e)
@@ -60,23 +60,23 @@ one_source zone name one other (inr (none, (encloser, encloses, is))) (inr (none
 owned : Labels → Item → Owned
 owned owner item = record { owner = owner; item = item }
 
-earlier_alias : (items : List Owned) (name one other : Labels) (a : IsFirstAlias items name one) (b : IsFirstAlias items name other) → IsEarlier a.before (record { owner = a.owner; item = alias one }) a.behind b.before (record { owner = b.owner; item = alias other }) b.behind → ⊥
+earlier_alias : (items : List Owned) (name one other : Labels) (a : IsFirstAlias items name one) (b : IsFirstAlias items name other) → IsEarlier a.before (record { owner = a.owner; item = alias one }) a.after b.before (record { owner = b.owner; item = alias other }) b.after → ⊥
 earlier_alias items name one other a b e =
     b.first one (a.owner, subst (λ os. Contains os (record { owner = a.owner; item = alias one })) (sym e.front) (Contains-middle a.before (record { owner = a.owner; item = alias one }) e.middle), a.here)
 
 -- a name has one first CNAME
 pub one_alias : (items : List Owned) (name one other : Labels) → IsFirstAlias items name one → IsFirstAlias items name other → one ≡ other
 one_alias items name one other a b =
-    elim (two_cuts a.before (record { owner = a.owner; item = alias one }) a.behind b.before (record { owner = b.owner; item = alias other }) b.behind (sym a.parts ∙ b.parts)) [
+    elim (two_cuts a.before (record { owner = a.owner; item = alias one }) a.after b.before (record { owner = b.owner; item = alias other }) b.after (sym a.parts ∙ b.parts)) [
       | inl same ↦ let e : alias one ≡ alias other = ap (λ (o : Owned). o.item) same.1 in cc
       | inr (inl e) ↦ absurd (earlier_alias items name one other a b e)
       | inr (inr e) ↦ absurd (earlier_alias items name other one b a e)
     ]
 
 -- a first CNAME stands there
-pub alias_stands : (items : List Owned) (name target : Labels) → IsFirstAlias items name target → StandsAt items name (alias target)
+pub alias_stands : (items : List Owned) (name target : Labels) → IsFirstAlias items name target → HasItem items name (alias target)
 alias_stands items name target a =
-    (a.owner, subst (λ os. Contains os (record { owner = a.owner; item = alias target })) (sym a.parts) (Contains-middle a.before (record { owner = a.owner; item = alias target }) a.behind), a.here)
+    (a.owner, subst (λ os. Contains os (record { owner = a.owner; item = alias target })) (sym a.parts) (Contains-middle a.before (record { owner = a.owner; item = alias target }) a.after), a.here)
 
 pub one_rules : (items : List Owned) (name : Labels) (one other : List Naptr) → AreRules items name one → AreRules items name other → one ≡ other
 one_rules items name one other a b =
@@ -97,7 +97,7 @@ one_served zones name zone zone' source source' (decides, not, is) (decides', no
 alias_and_rules : (zones : List Zone) (name target : Labels) (rules : List Naptr) → IsOffer zones name (offer.Alias target) → IsOffer zones name (offer.Rules rules) → ⊥
 alias_and_rules zones name target rules (zone, source, served, first) (zone', source', served', are) =
     let same = one_served zones name zone zone' source source' served served' in
-    are.none target (subst (λ s. StandsAt zone'.items s (alias target)) same.1 (subst (λ (z : Zone). StandsAt z.items source (alias target)) same.0 (alias_stands zone.items source target first)))
+    are.none target (subst (λ s. HasItem zone'.items s (alias target)) same.1 (subst (λ (z : Zone). HasItem z.items source (alias target)) same.0 (alias_stands zone.items source target first)))
 
 pub one_offer : (zones : List Zone) (name : Labels) (one other : Offer) → IsOffer zones name one → IsOffer zones name other → one ≡ other
 one_offer zones name offer.Unserved offer.Unserved a b = refl

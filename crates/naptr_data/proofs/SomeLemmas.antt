@@ -7,27 +7,27 @@ use Rattle.std.specs.declared.cmp.Ordering.TheVariants.{Less, Equal, Greater}
 use Rattle.std.proofs.lemmas.List.Elements.{Contains-append_cases}
 use Rattle.dns_name.specs.Name.{AreSame, IsBelow}
 use Rattle.naptr_data.specs.Laws.{RulesAreApart, HoldRules}
-use Rattle.naptr_data.specs.Rank.{rank_of}
-use Rattle.naptr_data.specs.Zones.{Labels, Item, Owned, Zone, Decides, NoneServes, IsDelegated, Exists, star, IsSource, StandsAt, IsFirstAlias, IsRising, IsOffer}
+use Rattle.naptr_rule.specs.Rank.{rank_of}
+use Rattle.naptr_data.specs.Zones.{Labels, Item, Owned, Zone, Decides, NoneServes, IsDelegated, Exists, star, IsSource, HasItem, IsFirstAlias, IsRising, IsOffer}
 use Rattle.naptr_data.specs.Zones.Item.{rule, alias, delegation, other}
-use Rattle.naptr_data.specs.declared.rule.Naptr.{Naptr}
+use Rattle.naptr_rule.specs.declared.rule.Naptr.{Naptr}
 use Rattle.naptr_data.specs.declared.offer.Offer.{Offer}
 use Rattle.naptr_data.specs.declared.offer.Offer.TheVariants as offer
-use Rattle.naptr_data.proofs.CutLemmas.{head_or_behind, Contains-head, Contains-behind, Contains-none}
+use Rattle.naptr_data.proofs.CutLemmas.{head_or_after, Contains-head, Contains-after, Contains-none}
 use Rattle.naptr_data.proofs.DecideLemmas.{Either, same_or_not, below_or_not, exists_or_not, delegated_or_not, has_encloser}
 use Rattle.naptr_data.proofs.OfferLemmas.{decides_among}
 use Rattle.naptr_data.proofs.RisingLemmas.{turned}
-use Rattle.naptr_data.proofs.RuleLemmas.{rank_of-total, rank_of-equal}
+use Rattle.naptr_rule.proofs.RuleLemmas.{rank_of-total, rank_of-equal}
 
 -- each zone that serves the name is at most as long as the one that decides
 at_most : (zones : List Zone) (name : Labels) (zone : Zone) → Decides zones name zone → (z : Zone) → Contains zones z → IsBelow name z.apex → length z.apex ≤ length zone.apex
 at_most zones name zone d z c b =
-    elim (Contains-append_cases d.before (zone ∷ d.behind) z (subst (λ zs. Contains zs z) d.parts c)) [
+    elim (Contains-append_cases d.before (zone ∷ d.after) z (subst (λ zs. Contains zs z) d.parts c)) [
       | inl front ↦ let l = d.longer z front b in omega (arith, l)
       | inr back ↦
-          elim (head_or_behind zone d.behind z back) [
+          elim (head_or_after zone d.after z back) [
             | inl here ↦ omega (arith, ap (λ (y : Zone). length y.apex) here)
-            | inr behind ↦ d.longest z behind b
+            | inr after ↦ d.longest z after b
           ]
     ]
 
@@ -38,7 +38,7 @@ HasDeciding zones name = NoneServes zones name ⊎ ((zone : Zone) × Decides zon
 first_decides : (zone : Zone) (zones : List Zone) (name : Labels) → IsBelow name zone.apex → ((z : Zone) → Contains zones z → IsBelow name z.apex → length z.apex ≤ length zone.apex) → Decides (zone ∷ zones) name zone
 first_decides zone zones name b longest = record {
   before = [];
-  behind = zones;
+  after = zones;
   parts = refl;
   above = b;
   longer = λ z c h. absurd (Contains-none z c);
@@ -48,10 +48,10 @@ first_decides zone zones name b longest = record {
 later_decides : (zone : Zone) (zones : List Zone) (name : Labels) (best : Zone) → Decides zones name best → (IsBelow name zone.apex → length zone.apex < length best.apex) → Decides (zone ∷ zones) name best
 later_decides zone zones name best d longer = record {
   before = zone ∷ d.before;
-  behind = d.behind;
+  after = d.after;
   parts = ap (λ zs. zone ∷ zs) d.parts;
   above = d.above;
-  longer = λ z c b. elim (head_or_behind zone d.before z c) [ inl here ↦ same z here b | inr behind ↦ d.longer z behind b ];
+  longer = λ z c b. elim (head_or_after zone d.before z c) [ inl here ↦ same z here b | inr after ↦ d.longer z after b ];
   longest = d.longest;
 }
   where
@@ -71,9 +71,9 @@ has_deciding (zone ∷ zones) name = next (below_or_not name zone.apex) (has_dec
         inr (zone, first_decides zone zones name b (λ z c h. let l = at_most zones name best d z c h in omega (arith, l, longer)))
 
     neither : ¬ IsBelow name zone.apex → NoneServes zones name → NoneServes (zone ∷ zones) name
-    neither not none z c b = elim (head_or_behind zone zones z c) [
+    neither not none z c b = elim (head_or_after zone zones z c) [
       | inl here ↦ not (subst (λ (y : Zone). IsBelow name y.apex) here b)
-      | inr behind ↦ none z behind b
+      | inr after ↦ none z after b
     ]
 
     next : Either (IsBelow name zone.apex) → HasDeciding zones name → HasDeciding (zone ∷ zones) name
@@ -110,12 +110,12 @@ alias_here o name = by_item o.item refl (same_or_not o.owner name)
     by_item other e s = no_alias (λ target f. cc)
 
 abbrev LacksAlias : List Owned → Labels → Type 0
-LacksAlias items name = (target : Labels) → ¬ StandsAt items name (alias target)
+LacksAlias items name = (target : Labels) → ¬ HasItem items name (alias target)
 
 lacks_more : (o : Owned) (items : List Owned) (name : Labels) → ¬ AliasHere o name → LacksAlias items name → LacksAlias (o ∷ items) name
-lacks_more o items name not none target (owner, c, same) = elim (head_or_behind o items (record { owner = owner; item = alias target }) c) [
+lacks_more o items name not none target (owner, c, same) = elim (head_or_after o items (record { owner = owner; item = alias target }) c) [
   | inl here ↦ not (target, sym (ap (λ (p : Owned). p.item) here), subst (λ (p : Owned). AreSame p.owner name) here same)
-  | inr behind ↦ none target (owner, behind, same)
+  | inr after ↦ none target (owner, after, same)
 ]
 
 -- a first CNAME stands at a name, or none does
@@ -138,7 +138,7 @@ has_alias (o ∷ items) name = next (alias_here o name) (has_alias items name)
       record {
         owner = o.owner;
         before = [];
-        behind = items;
+        after = items;
         parts = ap (λ (i : Item). (record { owner = o.owner; item = i }) ∷ items) is;
         here = same;
         first = nothing;
@@ -149,7 +149,7 @@ has_alias (o ∷ items) name = next (alias_here o name) (has_alias items name)
       record {
         owner = a.owner;
         before = o ∷ a.before;
-        behind = a.behind;
+        after = a.after;
         parts = ap (λ os. o ∷ os) a.parts;
         here = a.here;
         first = lacks_more o a.before name not a.first;
@@ -160,7 +160,7 @@ has_alias (o ∷ items) name = next (alias_here o name) (has_alias items name)
 -- what holds of each rule holds by recursion
 pub all_of : (P : Naptr → Type 0) (xs : List Naptr) → ((x : Naptr) → Contains xs x → P x) → AllByRecursion P xs
 all_of P [] h = tt
-all_of P (x ∷ xs) h = (h x (Contains-head x xs), all_of P xs (λ y c. h y (Contains-behind x xs y c)))
+all_of P (x ∷ xs) h = (h x (Contains-head x xs), all_of P xs (λ y c. h y (Contains-after x xs y c)))
 
 -- one more rule among rules in their order
 all_before : (one next : Naptr) (rest : List Naptr) → rank_of one next ≡ Less → AllByRecursion (λ o. rank_of next o ≡ Less) rest → AllByRecursion (λ o. rank_of one o ≡ Less) rest
@@ -182,7 +182,7 @@ Apart one rules = (next : Naptr) → Contains rules next → rank_of one next �
 insert : (one : Naptr) (rules : List Naptr) → Apart one rules → IsRising rules → Inserts one rules
 insert one [] apart rising = record {
   new = one ∷ [];
-  each = λ r. (λ c. head_or_behind one [] r c, λ h. put r h);
+  each = λ r. (λ c. head_or_after one [] r c, λ h. put r h);
   rising = (tt, tt);
 }
   where
@@ -190,11 +190,11 @@ insert one [] apart rising = record {
     put r (inl e) = subst (λ x. Contains (one ∷ []) x) (sym e) (Contains-head one [])
     put r (inr c) = absurd (Contains-none r c)
 insert one (next ∷ rest) apart rising =
-    by_rank (rank_of one next) refl (insert one rest (λ r c. apart r (Contains-behind next rest r c)) rising.1)
+    by_rank (rank_of one next) refl (insert one rest (λ r c. apart r (Contains-after next rest r c)) rising.1)
   where
     put : (r : Naptr) → (r ≡ one) ⊎ Contains (next ∷ rest) r → Contains (one ∷ (next ∷ rest)) r
     put r (inl e) = subst (λ x. Contains (one ∷ (next ∷ rest)) x) (sym e) (Contains-head one (next ∷ rest))
-    put r (inr c) = Contains-behind one (next ∷ rest) r c
+    put r (inr c) = Contains-after one (next ∷ rest) r c
 
     kept : next ≡ one → (r : Naptr) → (r ≡ one) ⊎ Contains (next ∷ rest) r → Contains (next ∷ rest) r
     kept e r (inl f) = subst (λ x. Contains (next ∷ rest) x) (e ∙ sym f) (Contains-head next rest)
@@ -202,32 +202,32 @@ insert one (next ∷ rest) apart rising =
 
     out : (new : List Naptr) → Inserted one rest new → (r : Naptr) → (r ≡ next) ⊎ Contains new r → (r ≡ one) ⊎ Contains (next ∷ rest) r
     out new each r (inl e) = inr (subst (λ x. Contains (next ∷ rest) x) (sym e) (Contains-head next rest))
-    out new each r (inr c) = elim ((each r).0 c) [ inl e ↦ inl e | inr d ↦ inr (Contains-behind next rest r d) ]
+    out new each r (inr c) = elim ((each r).0 c) [ inl e ↦ inl e | inr d ↦ inr (Contains-after next rest r d) ]
 
     into : (new : List Naptr) → Inserted one rest new → (r : Naptr) → (r ≡ one) ⊎ Contains (next ∷ rest) r → Contains (next ∷ new) r
-    into new each r (inl e) = Contains-behind next new r ((each r).1 (inl e))
-    into new each r (inr c) = elim (head_or_behind next rest r c) [
+    into new each r (inl e) = Contains-after next new r ((each r).1 (inl e))
+    into new each r (inr c) = elim (head_or_after next rest r c) [
       | inl e ↦ subst (λ x. Contains (next ∷ new) x) (sym e) (Contains-head next new)
-      | inr d ↦ Contains-behind next new r ((each r).1 (inr d))
+      | inr d ↦ Contains-after next new r ((each r).1 (inr d))
     ]
 
     later : rank_of one next ≡ Greater → (new : List Naptr) → Inserted one rest new → (r : Naptr) → Contains new r → rank_of next r ≡ Less
     later e new each r c = elim ((each r).0 c) [
       | inl f ↦ subst (λ x. rank_of next x ≡ Less) (sym f) (turned one next e)
-      | inr d ↦ behind rest rising.0 r d
+      | inr d ↦ after rest rising.0 r d
     ]
       where
-        behind : (xs : List Naptr) → AllByRecursion (λ o. rank_of next o ≡ Less) xs → (r : Naptr) → Contains xs r → rank_of next r ≡ Less
-        behind [] h r d = absurd (Contains-none r d)
-        behind (x ∷ xs) h r d = elim (head_or_behind x xs r d) [
+        after : (xs : List Naptr) → AllByRecursion (λ o. rank_of next o ≡ Less) xs → (r : Naptr) → Contains xs r → rank_of next r ≡ Less
+        after [] h r d = absurd (Contains-none r d)
+        after (x ∷ xs) h r d = elim (head_or_after x xs r d) [
           | inl f ↦ subst (λ y. rank_of next y ≡ Less) (sym f) h.0
-          | inr b ↦ behind xs h.1 r b
+          | inr b ↦ after xs h.1 r b
         ]
 
     by_rank : (o : Ordering) → rank_of one next ≡ o → Inserts one rest → Inserts one (next ∷ rest)
     by_rank Less e i = record {
       new = one ∷ (next ∷ rest);
-      each = λ r. (λ c. head_or_behind one (next ∷ rest) r c, λ h. put r h);
+      each = λ r. (λ c. head_or_after one (next ∷ rest) r c, λ h. put r h);
       rising = ((e, all_before one next rest e rising.0), rising);
     }
     by_rank Equal e i =
@@ -239,7 +239,7 @@ insert one (next ∷ rest) apart rising =
         }
     by_rank Greater e i = record {
       new = next ∷ i.new;
-      each = λ r. (λ c. out i.new i.each r (head_or_behind next i.new r c), λ h. into i.new i.each r h);
+      each = λ r. (λ c. out i.new i.each r (head_or_after next i.new r c), λ h. into i.new i.each r h);
       rising = (all_of (λ o. rank_of next o ≡ Less) i.new (later e i.new i.each), i.rising);
     }
 
@@ -257,29 +257,29 @@ rule_here o name = by_item o.item refl (same_or_not o.owner name)
     by_item delegation e s = inr (λ r h. let f = h.0 in cc)
     by_item other e s = inr (λ r h. let f = h.0 in cc)
 
-stands_parts : (o : Owned) (items : List Owned) (name : Labels) (r : Naptr) → StandsAt (o ∷ items) name (rule r) → RuleHere o name r ⊎ StandsAt items name (rule r)
-stands_parts o items name r (owner, c, same) = elim (head_or_behind o items (record { owner = owner; item = rule r }) c) [
+stands_parts : (o : Owned) (items : List Owned) (name : Labels) (r : Naptr) → HasItem (o ∷ items) name (rule r) → RuleHere o name r ⊎ HasItem items name (rule r)
+stands_parts o items name r (owner, c, same) = elim (head_or_after o items (record { owner = owner; item = rule r }) c) [
   | inl here ↦ inl (sym (ap (λ (p : Owned). p.item) here), subst (λ (p : Owned). AreSame p.owner name) here same)
-  | inr behind ↦ inr (owner, behind, same)
+  | inr after ↦ inr (owner, after, same)
 ]
 
-stands_here : (o : Owned) (items : List Owned) (name : Labels) (r : Naptr) → RuleHere o name r → StandsAt (o ∷ items) name (rule r)
+stands_here : (o : Owned) (items : List Owned) (name : Labels) (r : Naptr) → RuleHere o name r → HasItem (o ∷ items) name (rule r)
 stands_here o items name r (is, same) =
     (o.owner, subst (λ (i : Item). Contains (o ∷ items) (record { owner = o.owner; item = i })) is (Contains-head o items), same)
 
-stands_behind : (o : Owned) (items : List Owned) (name : Labels) (r : Naptr) → StandsAt items name (rule r) → StandsAt (o ∷ items) name (rule r)
-stands_behind o items name r (owner, c, same) = (owner, Contains-behind o items (record { owner = owner; item = rule r }) c, same)
+stands_after : (o : Owned) (items : List Owned) (name : Labels) (r : Naptr) → HasItem items name (rule r) → HasItem (o ∷ items) name (rule r)
+stands_after o items name r (owner, c, same) = (owner, Contains-after o items (record { owner = owner; item = rule r }) c, same)
 
 -- the rules at a name in their order
 pub record HasRules (items : List Owned) (name : Labels) : Type 0 where
   pub rules : List Naptr
-  pub each : (r : Naptr) → Contains rules r ↔ StandsAt items name (rule r)
+  pub each : (r : Naptr) → Contains rules r ↔ HasItem items name (rule r)
   pub rising : IsRising rules
 
 -- rules that stand at a name and rank equal are one
 abbrev AreApart : List Owned → Labels → Type 0
 AreApart items name =
-    (one other : Naptr) → StandsAt items name (rule one) → StandsAt items name (rule other) → rank_of one other ≡ Equal → one ≡ other
+    (one other : Naptr) → HasItem items name (rule one) → HasItem items name (rule other) → rank_of one other ≡ Equal → one ≡ other
 
 has_rules : (items : List Owned) (name : Labels) → AreApart items name → HasRules items name
 has_rules [] name apart = record {
@@ -288,15 +288,15 @@ has_rules [] name apart = record {
   rising = tt;
 }
   where
-    none : (r : Naptr) → StandsAt [] name (rule r) → Contains [] r
+    none : (r : Naptr) → HasItem [] name (rule r) → Contains [] r
     none r (owner, c, same) = absurd (Contains-none {X = Owned} (record { owner = owner; item = rule r }) c)
 has_rules (o ∷ items) name apart =
     next (rule_here o name)
-    (has_rules items name (λ one other h k e. apart one other (stands_behind o items name one h) (stands_behind o items name other k) e))
+    (has_rules items name (λ one other h k e. apart one other (stands_after o items name one h) (stands_after o items name other k) e))
   where
     from_others : (one : Naptr) → RuleHere o name one → (h : HasRules items name) → Apart one h.rules
     from_others one here h r c e =
-        apart one r (stands_here o items name one here) (stands_behind o items name r ((h.each r).0 c)) e
+        apart one r (stands_here o items name one here) (stands_after o items name r ((h.each r).0 c)) e
 
     only : (one : Naptr) → RuleHere o name one → (r : Naptr) → RuleHere o name r → r ≡ one
     only one h r g = let e : rule r ≡ rule one = sym g.0 ∙ h.0 in cc
@@ -306,8 +306,8 @@ has_rules (o ∷ items) name apart =
       rules = i.new;
       each = λ r. (
         λ c. elim ((i.each r).0 c) [
-          | inl e ↦ subst (λ x. StandsAt (o ∷ items) name (rule x)) (sym e) (stands_here o items name one here)
-          | inr d ↦ stands_behind o items name r ((h.each r).0 d)
+          | inl e ↦ subst (λ x. HasItem (o ∷ items) name (rule x)) (sym e) (stands_here o items name one here)
+          | inr d ↦ stands_after o items name r ((h.each r).0 d)
         ],
         λ s. elim (stands_parts o items name r s) [
           | inl g ↦ (i.each r).1 (inl (only one here r g))
@@ -322,7 +322,7 @@ has_rules (o ∷ items) name apart =
     next (inr not) h = record {
       rules = h.rules;
       each = λ r. (
-        λ c. stands_behind o items name r ((h.each r).0 c),
+        λ c. stands_after o items name r ((h.each r).0 c),
         λ s. elim (stands_parts o items name r s) [ inl g ↦ absurd (not r g) | inr d ↦ (h.each r).1 d ],
       );
       rising = h.rising;

@@ -1,9 +1,3 @@
-pub mod Bare
-pub mod BareReading
-pub mod Fields
 pub mod Laws
-pub mod Rank
-pub mod Rdata
 pub mod Sources
-pub mod Text
 pub mod Zones

@@ -32,17 +32,17 @@ abbrev pub AreDistinct : {X : Type 0} → List X → Type 0
 AreDistinct [] = Unit {0}
 AreDistinct (x ∷ xs) = ¬ Contains xs x × AreDistinct xs
 
--- the element at the front, and behind it the others in their order
-abbrev pub Fronts : {X : Type 0} → X → List X → List X → Type 0
-Fronts {X} x old new =
-    ((before : List X) × (behind : List X) × (old ≡ before ++ x ∷ behind) × (new ≡ x ∷ (before ++ behind)))
+-- the element at the front, and after it the others in their order
+abbrev pub BringsToFront : {X : Type 0} → X → List X → List X → Type 0
+BringsToFront {X} x old new =
+    ((before : List X) × (after : List X) × (old ≡ before ++ x ∷ after) × (new ≡ x ∷ (before ++ after)))
     ⊎ (¬ Contains old x × (new ≡ x ∷ old))
 
 -- which names are kept after a call: after an answer the name asked for and then the others, as many as there is room for;
 -- after a refusal those from before, or they with the name brought to the front
-abbrev pub Keeps : {A : Type 0} → ℕ → Labels → List Labels → List Labels → Result A SourceFault → Type 0
-Keeps room name old new (Ok a) = (all : List Labels) × Fronts name old all × (new ≡ take room all)
-Keeps room name old new (Err fault) = (new ≡ old) ⊎ (Contains old name × Fronts name old new)
+abbrev pub KeepsNames : {A : Type 0} → ℕ → Labels → List Labels → List Labels → Result A SourceFault → Type 0
+KeepsNames room name old new (Ok a) = (all : List Labels) × BringsToFront name old all × (new ≡ take room all)
+KeepsNames room name old new (Err fault) = (new ≡ old) ⊎ (Contains old name × BringsToFront name old new)
 
 -- how often names were fetched from beyond: once more exactly where the name was not kept
 pub record Fetches (name : Labels) (old : List Labels) (before now : ℕ) : Type 0 where

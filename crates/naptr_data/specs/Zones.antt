@@ -4,15 +4,11 @@ use Rattle.std.specs.Prelude.{◌≡◌, ◌↔◌, ◌⊎◌, ℕ, ◌+◌, ◌
 use Rattle.std.specs.declared.cmp.Ordering.TheVariants.{Less}
 use Rattle.std.specs.List.{AllByRecursion}
 use Rattle.dns_name.specs.Name.{AreSame, IsBelow}
-pub use Rattle.dns_name.specs.Name.{star}
-use Rattle.naptr_data.specs.Rank.{rank_of}
+pub use Rattle.dns_name.specs.Name.{Labels, star}
+use Rattle.naptr_rule.specs.Rank.{rank_of}
 use Rattle.naptr_data.specs.declared.offer.Offer.{Offer}
 use Rattle.naptr_data.specs.declared.offer.Offer.TheVariants as offer
-use Rattle.naptr_data.specs.declared.rule.Naptr.{Naptr}
-
--- names, as lists of labels
-abbrev pub Labels : Type 0
-Labels = List (List ℕ)
+use Rattle.naptr_rule.specs.declared.rule.Naptr.{Naptr}
 
 -- what stands at an owner: a rule, a CNAME with the name that it stands for, an NS record, or another record
 pub data Item : Type 0 where
@@ -33,11 +29,11 @@ pub record Zone : Type 0 where
 -- the zone that decides of a name: the first of those with the longest apex at or above it (RFC 1034, 4.3.2, step 2)
 pub record Decides (zones : List Zone) (name : Labels) (zone : Zone) : Type 0 where
   pub before : List Zone
-  pub behind : List Zone
-  pub parts : zones ≡ before ++ zone ∷ behind
+  pub after : List Zone
+  pub parts : zones ≡ before ++ zone ∷ after
   pub above : IsBelow name zone.apex
   pub longer : (z : Zone) → Contains before z → IsBelow name z.apex → length z.apex < length zone.apex
-  pub longest : (z : Zone) → Contains behind z → IsBelow name z.apex → length z.apex ≤ length zone.apex
+  pub longest : (z : Zone) → Contains after z → IsBelow name z.apex → length z.apex ≤ length zone.apex
 
 -- no zone serves the name
 abbrev pub NoneServes : List Zone → Labels → Type 0
@@ -69,27 +65,27 @@ IsSource zone name source =
     ⊎ (¬ Exists zone name × ((encloser : Labels) × Encloses zone name encloser × (source ≡ star ∷ encloser)))
 
 -- an item stands at a name
-abbrev pub StandsAt : List Owned → Labels → Item → Type 0
-StandsAt items name item = (owner : Labels) × Contains items (record { owner = owner; item = item }) × AreSame owner name
+abbrev pub HasItem : List Owned → Labels → Item → Type 0
+HasItem items name item = (owner : Labels) × Contains items (record { owner = owner; item = item }) × AreSame owner name
 
 -- the first CNAME at a name
 pub record IsFirstAlias (items : List Owned) (name target : Labels) : Type 0 where
   pub owner : Labels
   pub before : List Owned
-  pub behind : List Owned
-  pub parts : items ≡ before ++ (record { owner = owner; item = alias target }) ∷ behind
+  pub after : List Owned
+  pub parts : items ≡ before ++ (record { owner = owner; item = alias target }) ∷ after
   pub here : AreSame owner name
-  pub first : (earlier : Labels) → ¬ StandsAt before name (alias earlier)
+  pub first : (earlier : Labels) → ¬ HasItem before name (alias earlier)
 
--- each rule ranks before all behind it
+-- each rule ranks before all after it
 abbrev pub IsRising : List Naptr → Type 0
 IsRising [] = Unit {0}
 IsRising (one ∷ rest) = AllByRecursion (λ next. rank_of one next ≡ Less) rest × IsRising rest
 
 -- the rules at a name that has no CNAME: each once, in their order
 pub record AreRules (items : List Owned) (name : Labels) (rules : List Naptr) : Type 0 where
-  pub none : (target : Labels) → ¬ StandsAt items name (alias target)
-  pub each : (r : Naptr) → Contains rules r ↔ StandsAt items name (rule r)
+  pub none : (target : Labels) → ¬ HasItem items name (alias target)
+  pub each : (r : Naptr) → Contains rules r ↔ HasItem items name (rule r)
   pub rising : IsRising rules
 
 -- a zone serves the name, which no delegation takes from it, and its items are those of this source

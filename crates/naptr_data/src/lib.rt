@@ -1,28 +1,15 @@
-//! NAPTR rules (RFC 3403): the record, its RDATA, the order of rules, and who is asked for them.
+//! What zones offer for a name (RFC 3403, RFC 1034, RFC 4592), and who is asked for it.
 #![tactic(auto)]
 
-mod bare_name;
-mod fields;
-mod in_fault;
 mod laws;
 mod offer;
-mod rdata_fault;
-mod read;
-mod rule;
 mod rules;
 mod source;
-mod text;
-mod written;
 
-pub use fields::{ends_in, name_in, text_in};
-pub use in_fault::InFault;
-pub use laws::{
-    offer_folds, one_offer, rank_is_total, rdata_is_read, rdata_tells_rules, rule_in_is_one,
-    some_offer,
+pub use laws::{offer_folds, one_offer, some_offer};
+pub use naptr_rule::{
+    InFault, Naptr, RdataFault, rank_is_total, rdata_is_read, rdata_tells_rules, rule_in_is_one,
 };
 pub use offer::Offer;
-pub use rdata_fault::RdataFault;
-pub use rule::Naptr;
 pub use rules::Rules;
 pub use source::{RuleSource, SourceFault};
-pub use text::{QuotedText, quoted};

@@ -1,7 +1,7 @@
 //! Lists of rules.
 
-use crate::rule::Naptr;
 use enum_base::List;
+use naptr_rule::Naptr;
 
 /// A list of rules.
 pub type Rules = List<Naptr>;

@@ -3,7 +3,7 @@ ghost use Rattle.std.specs.Prelude.{◌≡◌, IfOk};
 ghost use Rattle.dns_name.specs.Name.{folded_labels};
 ghost use Rattle.enum_base.specs.Causes.{one_more};
 ghost use Rattle.enum_base.specs.Outside.{WhereTold};
-ghost use Rattle.naptr_data.specs.Sources.{SourceState, HasFewRules, Keeps, Fetches, AreKept, HasTrouble};
+ghost use Rattle.naptr_data.specs.Sources.{SourceState, HasFewRules, KeepsNames, Fetches, AreKept, HasTrouble};
 ghost use Rattle.naptr_data.specs.Zones.{IsOffer};
 
 use crate::offer::Offer;
@@ -35,7 +35,7 @@ pub trait RuleSource {
         ensures asks { (state self.new).asks ≡ one_more (state self.old).asks }
         ensures trouble { HasTrouble (state self.old) (state self.new) result }
         ensures room { (state self.new).room ≡ (state self.old).room }
-        ensures keeps { Keeps (state self.old).room (folded_labels name.now) (state self.old).kept (state self.new).kept result }
+        ensures keeps { KeepsNames (state self.old).room (folded_labels name.now) (state self.old).kept (state self.new).kept result }
         ensures fetched { Fetches (folded_labels name.now) (state self.old).kept (state self.old).fetched (state self.new).fetched }
         ensures before { AreKept (state self.old).kept (state self.old).fetched }
         ensures after { AreKept (state self.new).kept (state self.new).fetched }

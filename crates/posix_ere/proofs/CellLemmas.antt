@@ -1,5 +1,7 @@
 -- Cells, and the stack and the trees that they give.
-use Rattle.std.proofs.Common.{ℕ, zero, suc, ◌≡◌, ◌+◌, ◌-◌, ◌*◌, ◌<◌, ◌≤◌, min, Bool, false, List, [], ◌∷◌, ◌++◌, length, get_or, take, drop, refl, sym, ◌∙◌, ap, arith, ◌⊎◌, inl, inr, length-append, ◌==◌, Option, Some, None}
+use Rattle.std.proofs.Common.{ℕ, zero, suc, ◌≡◌, ◌+◌, ◌-◌, ◌*◌, ◌<◌, ◌≤◌, min, Bool, false, List, [], ◌∷◌, ◌++◌, length}
+use Rattle.std.proofs.Common.{get_or, take, drop, refl, sym, ◌∙◌, ap, arith, ◌⊎◌, inl, inr, length-append, ◌==◌, Option}
+use Rattle.std.proofs.Common.{Some, None}
 use Rattle.std.proofs.lemmas.List.{take-append-le, take-take, length-drop, length-take-le}
 use Rattle.std.proofs.Math.ListN.{get_or-append}
 use Rattle.std.proofs.Math.Seq.{get_or-append_seam, take-append_seam}
@@ -9,7 +11,8 @@ use Rattle.posix_ere.specs.Tree.{Tree, Trees}
 use Rattle.posix_ere.specs.Tree.Trees.{none, more}
 use Rattle.posix_ere.specs.Parts.{part, parts_of, count_of, weight, weights, times}
 use Rattle.posix_ere.specs.Nodes.{node_of}
-use Rattle.posix_ere.specs.Cells.{tree_of, gather, made, put, stack_from, stack_of, trees_from, trees_of, FitsNode, most, capped, total, Settled, AreCells, Walked}
+use Rattle.posix_ere.specs.Cells.{tree_of, gather, made, put, stack_from, stack_of, trees_from, trees_of, FitsNode}
+use Rattle.posix_ere.specs.Cells.{most, capped, total, Settled, AreCells, Walked}
 use Rattle.posix_ere.specs.declared.node.Node.{Node}
 use Rattle.posix_ere.specs.declared.node.Node.TheVariants as n
 use Rattle.posix_ere.specs.declared.cell.Cell.{Cell}

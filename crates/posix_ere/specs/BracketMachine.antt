@@ -1,5 +1,7 @@
 -- A bracket read a byte at a time.
-use Rattle.std.specs.Prelude.{ℕ, ◌+◌, ◌==◌, replicate, nat_lt, nat_eq, Bool, true, false, not, ◌||◌, ◌&&◌, if◌then◌else◌, List, [], ◌∷◌, length, map, take, Option, Some, None, Result, Ok, Err, slice_index_or}
+use Rattle.std.specs.Prelude.{ℕ, ◌+◌, ◌==◌, replicate, nat_lt, nat_eq, Bool, true, false, not, ◌||◌, ◌&&◌}
+use Rattle.std.specs.Prelude.{if◌then◌else◌, List, [], ◌∷◌, length, map, take, Option, Some, None, Result, Ok, Err}
+use Rattle.std.specs.Prelude.{slice_index_or}
 use Rattle.std.specs.Cmp.Lexicographic.{pointwise}
 use Rattle.std.specs.List.{find, range_with_len}
 use Rattle.posix_ere.specs.Ascii.{is_printable}

@@ -9,7 +9,8 @@ use Rattle.posix_ere.specs.Bracket.{Item, spelled, body, sign, opens, name_of}
 use Rattle.posix_ere.specs.Grammar.{IsExpression, Reads}
 use Rattle.posix_ere.specs.declared.class.Class.{Class}
 use Rattle.posix_ere.specs.declared.why.Why.{Why}
-use Rattle.posix_ere.specs.declared.why.Why.TheVariants.{OpenGroup, StrayClose, OpenBracket, BadRange, BadClass, BadInterval, NothingToRepeat, BadEscape, Collating, NotAscii}
+use Rattle.posix_ere.specs.declared.why.Why.TheVariants.{OpenGroup, StrayClose, OpenBracket, BadRange, BadClass}
+use Rattle.posix_ere.specs.declared.why.Why.TheVariants.{BadInterval, NothingToRepeat, BadEscape, Collating, NotAscii}
 
 -- texts that have trees with a `(` between each two: d groups are open, and k were opened
 abbrev pub IsBetween : ℕ → ℕ → List ℕ → Type 0

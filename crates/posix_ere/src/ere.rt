@@ -79,7 +79,7 @@ impl<A: Allocator + Copy> Ere<A> {
     }
 }
 
-#[tactic(auto, using(crate::proofs::Told::length_trees))]
+#[tactic(auto, using(crate::proofs::ToldLemmas::length_trees))]
 impl<A: Allocator> Ere<A> {
     // The expression of these cells.
     pub(crate) fn new(cells: Cells<A>, groups: u32) -> Ere<A>

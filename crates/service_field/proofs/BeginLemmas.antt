@@ -1,4 +1,5 @@
-use Rattle.std.proofs.Common.{◌≡◌, ℕ, ◌<◌, ◌≤◌, min, Bool, true, false, ◌&&◌, ◌==◌, cond, List, [], ◌∷◌, length, take, drop, refl, sym, ap, ◌∙◌, inl, inr, lit<, arith}
+use Rattle.std.proofs.Common.{◌≡◌, ℕ, ◌<◌, ◌≤◌, min, Bool, true, false, ◌&&◌, ◌==◌, cond, List, [], ◌∷◌, length, take}
+use Rattle.std.proofs.Common.{drop, refl, sym, ap, ◌∙◌, inl, inr, lit<, arith}
 use Rattle.std.proofs.lemmas.Bool.{cases_lt, eq-eqb, eqb-true, ne_eqb, and_parts}
 use Rattle.std.proofs.lemmas.List.{length-map, length-take}
 use Rattle.std.proofs.lemmas.Str.Ascii.{lowercase_is}
@@ -45,7 +46,8 @@ tags_at : (b : ℕ) (text : List ℕ) (x : Bool) → (b == colon) ≡ x → tags
 tags_at b text x is = ap (λ c. cond c ([] ∷ tags_of text) (onto_first b (tags_of text))) is
 
 -- nothing stands before the end of a tag alone
-none_first : (item : List ℕ) (x : Bool) (i : ℕ) (p : FirstPart item) → (i == colon) ≡ x → x ≡ begins ([] ∷ []) (cond x ([] ∷ tags_of item) (onto_first i (tags_of item)))
+none_first : (item : List ℕ) (x : Bool) (i : ℕ) (p : FirstPart item) → (i == colon) ≡ x
+    → x ≡ begins ([] ∷ []) (cond x ([] ∷ tags_of item) (onto_first i (tags_of item)))
 none_first item true i p is = refl
 none_first item false i p is = sym (ap (λ l. begins ([] ∷ []) (onto_first i l)) p.is)
 
@@ -57,11 +59,17 @@ and_assoc : (x y z : Bool) → (x && (y && z)) ≡ (x && y && z)
 and_assoc true y z = refl
 and_assoc false y z = refl
 
-both_parts : (t i : ℕ) (tags item : List ℕ) (x y : Bool) → (t == colon) ≡ x → (i == colon) ≡ y → (p : FirstPart tags) (q : FirstPart item) → stands_first tags item ≡ begins (tags_of tags) (tags_of item) → ((folded_byte t == folded_byte i) && stands_first tags item) ≡ begins (cond x ([] ∷ tags_of tags) (onto_first t (tags_of tags))) (cond y ([] ∷ tags_of item) (onto_first i (tags_of item)))
+both_parts : (t i : ℕ) (tags item : List ℕ) (x y : Bool) → (t == colon) ≡ x → (i == colon) ≡ y
+    → (p : FirstPart tags) (q : FirstPart item) → stands_first tags item ≡ begins (tags_of tags) (tags_of item)
+    → ((folded_byte t == folded_byte i) && stands_first tags item)
+    ≡ begins (cond x ([] ∷ tags_of tags) (onto_first t (tags_of tags)))
+    (cond y ([] ∷ tags_of item) (onto_first i (tags_of item)))
 both_parts t i tags item true true is_t is_i p q more =
     ap (λ b. b && stands_first tags item) (eq-eqb (folded_byte t) (folded_byte i) (ap folded_byte (eqb-true t colon is_t ∙ sym (eqb-true i colon is_i)))) ∙ more
 both_parts t i tags item true false is_t is_i p q more =
-    let other : (colon == folded_byte i) ≡ false = ne_eqb colon (folded_byte i) (λ e. absurd (cc (eq-eqb (folded_byte i) colon (sym e), folded_is colon (lit< tt) i, is_i))) in
+    let other : (colon == folded_byte i) ≡ false =
+    ne_eqb colon (folded_byte i)
+    (λ e. absurd (cc (eq-eqb (folded_byte i) colon (sym e), folded_is colon (lit< tt) i, is_i))) in
     ap (λ b. b && stands_first tags item) (ap (λ c. folded_byte c == folded_byte i) (eqb-true t colon is_t) ∙ other)
     ∙ sym (ap (λ l. begins ([] ∷ tags_of tags) (onto_first i l)) q.is)
 both_parts t i tags item false true is_t is_i p q more =
@@ -101,10 +109,14 @@ front_same (t ∷ ts) (i ∷ is) stands =
 
 same_length : (tags item : List ℕ) (n : ℕ) → folded (take n item) ≡ folded tags → n ≡ min (length item) (length tags) → n ≡ length tags
 same_length tags item n same is =
-    let size : min n (length item) ≡ length tags = sym (length-take n item) ∙ sym (length-map (take n item) folded_byte) ∙ ap length same ∙ length-map tags folded_byte in
+    let size : min n (length item) ≡ length tags =
+    sym (length-take n item) ∙ sym (length-map (take n item) folded_byte) ∙ ap length same
+    ∙ length-map tags folded_byte in
     omega (arith, size, is)
 
-pub begins_by_front : (tags item front rest : List ℕ) (n : ℕ) → n ≡ min (length item) (length tags) → front ≡ take n item → rest ≡ drop n item → folded front ≡ folded tags → ends rest ≡ begins (tags_of tags) (tags_of item)
+pub begins_by_front : (tags item front rest : List ℕ) (n : ℕ) → n ≡ min (length item) (length tags)
+    → front ≡ take n item → rest ≡ drop n item → folded front ≡ folded tags
+    → ends rest ≡ begins (tags_of tags) (tags_of item)
 begins_by_front tags item front rest n least is_front is_rest same =
     let at : folded (take n item) ≡ folded tags = sym (ap folded is_front) ∙ same in
     let whole : n ≡ length tags = same_length tags item n at least in
@@ -114,16 +126,20 @@ begins_by_front tags item front rest n least is_front is_rest same =
 
 fits_before : (tags item : List ℕ) → folded (take (length tags) item) ≡ folded tags → length tags ≤ length item
 fits_before tags item same =
-    let size : min (length tags) (length item) ≡ length tags = sym (length-take (length tags) item) ∙ sym (length-map (take (length tags) item) folded_byte) ∙ ap length same ∙ length-map tags folded_byte in
+    let size : min (length tags) (length item) ≡ length tags =
+    sym (length-take (length tags) item) ∙ sym (length-map (take (length tags) item) folded_byte) ∙ ap length same
+    ∙ length-map tags folded_byte in
     omega (arith, size)
 
-stands_or_not : (tags item front : List ℕ) (n : ℕ) → n ≡ min (length item) (length tags) → front ≡ take n item → (folded front ≡ folded tags → ⊥) → (x : Bool) → stands_first tags item ≡ x → false ≡ x
+stands_or_not : (tags item front : List ℕ) (n : ℕ) → n ≡ min (length item) (length tags) → front ≡ take n item
+    → (folded front ≡ folded tags → ⊥) → (x : Bool) → stands_first tags item ≡ x → false ≡ x
 stands_or_not tags item front n least is other true stands =
     let same : folded (take (length tags) item) ≡ folded tags = front_same tags item stands in
     let whole : n ≡ length tags = omega (arith, least, fits_before tags item same) in
     absurd (other (ap folded (is ∙ ap (λ k. take k item) whole) ∙ same))
 stands_or_not tags item front n least is other false stands = refl
 
-pub begins_not : (tags item front : List ℕ) (n : ℕ) → n ≡ min (length item) (length tags) → front ≡ take n item → (folded front ≡ folded tags → ⊥) → false ≡ begins (tags_of tags) (tags_of item)
+pub begins_not : (tags item front : List ℕ) (n : ℕ) → n ≡ min (length item) (length tags) → front ≡ take n item
+    → (folded front ≡ folded tags → ⊥) → false ≡ begins (tags_of tags) (tags_of item)
 begins_not tags item front n least is other =
     stands_or_not tags item front n least is other (stands_first tags item) refl ∙ stands_begins tags item

@@ -1,5 +1,6 @@
 -- The tests tell what they are to tell.
-use Rattle.std.proofs.Common.{◌≡◌, ℕ, Bool, true, false, ◌&&◌, leb, ltb, List, [], ◌∷◌, ◌++◌, length, map, get_or, Contains, Option, Some, None, IsTrue, ◌↔◌, is_none, is_some, not, refl, sym, ap, ◌∙◌}
+use Rattle.std.proofs.Common.{◌≡◌, ℕ, Bool, true, false, ◌&&◌, leb, ltb, List, [], ◌∷◌, ◌++◌, length, map, get_or}
+use Rattle.std.proofs.Common.{Contains, Option, Some, None, IsTrue, ◌↔◌, is_none, is_some, not, refl, sym, ap, ◌∙◌}
 use Rattle.std.proofs.lemmas.Bool.{and_parts, and_from, le-leb, leb-true}
 use Rattle.std.proofs.lemmas.Bool.Decides.{Decides-and, Decides-by_and, Decides-by_or, Decides-like, Decides-ltb}
 use Rattle.std.proofs.lemmas.List.Elements.{at_read, Contains-get_or}
@@ -10,7 +11,8 @@ use Rattle.enum_base.specs.Folding.{folded}
 use Rattle.service_field.specs.Tags.{IsItem, IsPair, IsTag, Item, begins_tag, first_tag, is_tag_byte, other_tags, tags_of}
 use Rattle.service_field.specs.Services.{wanted_items}
 use Rattle.service_field.specs.Faults.{pair_fault, tag_fault}
-use Rattle.service_field.specs.Fitting.{Begins, Fits, IsAmong, Offers, SnaptrFits, SomeServed, begins, is_item, is_pair, is_tag, items_serve, offers, same_tag, snaptr_serves, some_served}
+use Rattle.service_field.specs.Fitting.{Begins, Fits, IsAmong, Offers, SnaptrFits, SomeServed, begins, is_item, is_pair}
+use Rattle.service_field.specs.Fitting.{is_tag, items_serve, offers, same_tag, snaptr_serves, some_served}
 use Rattle.service_field.specs.declared.alphabet.Alphabet.{Alphabet}
 use Rattle.service_field.specs.declared.alphabet.Alphabet.TheVariants.{Enum, Snaptr}
 use Rattle.service_field.specs.declared.fault.ServiceFault.{ServiceFault}
@@ -37,7 +39,8 @@ item_decides alphabet item =
     Decides-like (is_item alphabet item)
     (λ t. record { tags = t.1; some = t.0 })
     (λ (t : IsItem alphabet item). (t.some, t.tags))
-    (Decides-and (ltb 0 (length item)) (list_all (is_tag alphabet) item) (Decides-ltb 0 (length item)) (all_decides (is_tag alphabet) (IsTag alphabet) (tag_decides alphabet) item))
+    (Decides-and (ltb 0 (length item)) (list_all (is_tag alphabet) item) (Decides-ltb 0 (length item))
+    (all_decides (is_tag alphabet) (IsTag alphabet) (tag_decides alphabet) item))
 
 pub pair_decides : (item : Item) → Decides (is_pair item) (IsPair item)
 pair_decides item =
@@ -65,11 +68,15 @@ none_result false o is = sym (ap not is)
 
 pub tag_test : (alphabet : Alphabet) (text : List ℕ) → is_none (tag_fault alphabet 0 text) ≡ is_tag alphabet text
 tag_test alphabet text =
-    agree (is_none (tag_fault alphabet 0 text)) (is_tag alphabet text) (none_decides (tag_fault alphabet 0 text) (IsTag alphabet text) (tag_of_part alphabet 0 text) (part_of_tag alphabet 0 text)) (tag_decides alphabet text)
+    agree (is_none (tag_fault alphabet 0 text)) (is_tag alphabet text)
+    (none_decides (tag_fault alphabet 0 text) (IsTag alphabet text) (tag_of_part alphabet 0 text)
+    (part_of_tag alphabet 0 text)) (tag_decides alphabet text)
 
 pub pair_test : (text : List ℕ) → is_none (pair_fault 0 text) ≡ is_pair (tags_of text)
 pair_test text =
-    agree (is_none (pair_fault 0 text)) (is_pair (tags_of text)) (none_decides (pair_fault 0 text) (IsPair (tags_of text)) (pair_of_part 0 text) (part_of_pair 0 text)) (pair_decides (tags_of text))
+    agree (is_none (pair_fault 0 text)) (is_pair (tags_of text))
+    (none_decides (pair_fault 0 text) (IsPair (tags_of text)) (pair_of_part 0 text) (part_of_pair 0 text))
+    (pair_decides (tags_of text))
 
 begins_tells : (wanted item : Item) → begins wanted item ≡ true → Begins wanted item
 begins_tells [] item is = (map folded item, refl)
@@ -100,7 +107,9 @@ some_decides d p P each xs =
     (Decides-by_or p P (list_any p) each refl (λ _ _. refl) xs)
 
 -- the test of a list tells whether some item of it is served
-served_decides : (is_one serves : Item → Bool) (IsOne Serves : Item → Type 0) → ((x : Item) → Decides (is_one x) (IsOne x)) → ((x : Item) → Decides (serves x) (Serves x)) → (wanted : Option (List ℕ)) → Decides (some_served is_one serves wanted) (SomeServed IsOne Serves wanted)
+served_decides : (is_one serves : Item → Bool) (IsOne Serves : Item → Type 0)
+    → ((x : Item) → Decides (is_one x) (IsOne x)) → ((x : Item) → Decides (serves x) (Serves x))
+    → (wanted : Option (List ℕ)) → Decides (some_served is_one serves wanted) (SomeServed IsOne Serves wanted)
 served_decides is_one serves IsOne Serves each also None = (λ _. tt, λ _. refl)
 served_decides is_one serves IsOne Serves each also (Some text) =
     Decides-like (list_any (λ w. is_one w && serves w) (wanted_items text))
@@ -129,8 +138,11 @@ offers_decides wanted field =
     Decides-like (offers wanted field)
     (λ t. record { service = t.0; protocol = t.1 })
     (λ (t : Offers wanted field). (t.service, t.protocol))
-    (Decides-and (same_tag (first_tag wanted) (first_tag field)) (list_all (λ tag. list_any (same_tag tag) (other_tags field)) (other_tags wanted)) (bytes_eq-Decides (folded (first_tag wanted)) (folded (first_tag field)))
-    (all_decides (λ tag. list_any (same_tag tag) (other_tags field)) (λ tag. IsAmong tag (other_tags field)) (among_decides (other_tags field)) (other_tags wanted)))
+    (Decides-and (same_tag (first_tag wanted) (first_tag field))
+    (list_all (λ tag. list_any (same_tag tag) (other_tags field)) (other_tags wanted))
+    (bytes_eq-Decides (folded (first_tag wanted)) (folded (first_tag field)))
+    (all_decides (λ tag. list_any (same_tag tag) (other_tags field)) (λ tag. IsAmong tag (other_tags field))
+    (among_decides (other_tags field)) (other_tags wanted)))
 
 pub snaptr_decides : (wanted : Option (List ℕ)) (field : Item) → Decides (snaptr_serves wanted field) (SnaptrFits wanted field)
 snaptr_decides wanted field =
@@ -141,6 +153,9 @@ snaptr_serve_fits wanted field r is =
     let d = snaptr_decides wanted field in
     (λ true'. d.0 (sym is ∙ true'), λ fits. is ∙ d.1 fits)
 
-pub offered : (service : List ℕ) (item field : Item) (t r : Bool) → service ≡ first_tag item → t ≡ same_tag service (first_tag field) → t ≡ true → r ≡ list_all (λ tag. list_any (same_tag tag) (other_tags field)) (other_tags item) → r ≡ offers item field
+pub offered : (service : List ℕ) (item field : Item) (t r : Bool) → service ≡ first_tag item
+    → t ≡ same_tag service (first_tag field) → t ≡ true
+    → r ≡ list_all (λ tag. list_any (same_tag tag) (other_tags field)) (other_tags item) → r ≡ offers item field
 offered service item field t r first test holds is =
-    is ∙ sym (ap (λ b. b && list_all (λ tag. list_any (same_tag tag) (other_tags field)) (other_tags item)) (sym (test ∙ ap (λ s. same_tag s (first_tag field)) first) ∙ holds))
+    is ∙ sym (ap (λ b. b && list_all (λ tag. list_any (same_tag tag) (other_tags field)) (other_tags item))
+    (sym (test ∙ ap (λ s. same_tag s (first_tag field)) first) ∙ holds))

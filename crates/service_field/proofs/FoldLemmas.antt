@@ -1,5 +1,7 @@
 -- Case is ignored.
-use Rattle.std.proofs.Common.{◌≡◌, ℕ, ◌+◌, ◌<◌, ◌≤◌, Bool, true, false, not, ◌&&◌, ◌||◌, ◌==◌, cond, nat_le, nat_lt, List, [], ◌∷◌, length, take, drop, map, bytes_eq, Option, Some, None, option_map, refl, sym, ap, ◌∙◌, inl, inr, lit<, arith}
+use Rattle.std.proofs.Common.{◌≡◌, ℕ, ◌+◌, ◌<◌, ◌≤◌, Bool, true, false, not, ◌&&◌, ◌||◌, ◌==◌, cond, nat_le, nat_lt}
+use Rattle.std.proofs.Common.{List, [], ◌∷◌, length, take, drop, map, bytes_eq, Option, Some, None, option_map, refl}
+use Rattle.std.proofs.Common.{sym, ap, ◌∙◌, inl, inr, lit<, arith}
 use Rattle.std.proofs.lemmas.Bool.{cases_lt, le-leb, or_left, or_right, and_from}
 use Rattle.std.proofs.lemmas.List.{drop-map, length-map, take-map}
 use Rattle.std.proofs.lemmas.Str.Ascii.{lowercase-lowercase, lowercase_is}
@@ -10,7 +12,7 @@ use Rattle.std.specs.Option.{option_or}
 use Rattle.enum_base.specs.Folding.{folded, folded_byte}
 use Rattle.service_field.specs.Tags.{Item, begins_tag, colon, first_tag, is_first_byte, is_tag_byte, items_of, other_tags, tags_of}
 use Rattle.service_field.specs.Services.{comma, plus, e2u, services_items, wanted_items}
-use Rattle.service_field.specs.Faults.{ends_part, fault_behind_e2u, fault_by_run, form_fault, parts_fault, run_of, services_fault, snaptr_fault, tag_fault}
+use Rattle.service_field.specs.Faults.{ends_part, fault_after_e2u, fault_by_run, form_fault, parts_fault, run_of, services_fault, snaptr_fault, tag_fault}
 use Rattle.service_field.specs.Fitting.{begins, is_item, is_pair, is_tag, items_serve, offers, same_tag, snaptr_serves, some_served}
 use Rattle.service_field.specs.declared.alphabet.Alphabet.{Alphabet}
 use Rattle.service_field.specs.declared.alphabet.Alphabet.TheVariants.{Enum, Snaptr}
@@ -84,7 +86,9 @@ onto_first_folds : (b : ℕ) (parts : List (List ℕ)) → onto_first (folded_by
 onto_first_folds b [] = refl
 onto_first_folds b (part ∷ parts) = refl
 
-split_folds_at : (p : ℕ → Bool) (b : ℕ) (parts : List (List ℕ)) (x : Bool) → cond x ([] ∷ map folded parts) (onto_first (folded_byte b) (map folded parts)) ≡ map folded (cond x ([] ∷ parts) (onto_first b parts))
+split_folds_at : (p : ℕ → Bool) (b : ℕ) (parts : List (List ℕ)) (x : Bool)
+    → cond x ([] ∷ map folded parts) (onto_first (folded_byte b) (map folded parts))
+    ≡ map folded (cond x ([] ∷ parts) (onto_first b parts))
 split_folds_at p b parts true = refl
 split_folds_at p b parts false = onto_first_folds b parts
 
@@ -118,9 +122,13 @@ tag_fault_folds : (alphabet : Alphabet) (at : ℕ) (part : List ℕ) → tag_fau
 tag_fault_folds alphabet at part =
     ap (λ x. cond (not x) (Some (BadTag at)) (fault_by_run at (length (folded part)) (run_of alphabet (folded part)))) (begins_tag_folds alphabet part)
     ∙ ap (λ n. cond (not (begins_tag alphabet part)) (Some (BadTag at)) (fault_by_run at n (run_of alphabet (folded part)))) (length-map part folded_byte)
-    ∙ ap (λ n. cond (not (begins_tag alphabet part)) (Some (BadTag at)) (fault_by_run at (length part) n)) (prefix_folds (λ b. not (not (is_tag_byte alphabet b))) (λ b. ap (λ x. not (not x)) (tag_byte_folds alphabet b)) part)
+    ∙ ap (λ n. cond (not (begins_tag alphabet part)) (Some (BadTag at)) (fault_by_run at (length part) n))
+    (prefix_folds (λ b. not (not (is_tag_byte alphabet b)))
+    (λ b. ap (λ x. not (not x)) (tag_byte_folds alphabet b)) part)
 
-parts_fold : (fault : ℕ → List ℕ → Option ServiceFault) → ((at : ℕ) (part : List ℕ) → fault at (folded part) ≡ fault at part) → (at : ℕ) (parts : List (List ℕ)) → parts_fault fault at (map folded parts) ≡ parts_fault fault at parts
+parts_fold : (fault : ℕ → List ℕ → Option ServiceFault)
+    → ((at : ℕ) (part : List ℕ) → fault at (folded part) ≡ fault at part) → (at : ℕ) (parts : List (List ℕ))
+    → parts_fault fault at (map folded parts) ≡ parts_fault fault at parts
 parts_fold fault same at [] = refl
 parts_fold fault same at (part ∷ parts) =
     ap (λ o. option_or o (parts_fault fault (at + (length (folded part) + 1)) (map folded parts))) (same at part)
@@ -135,18 +143,23 @@ services_parts_fold at text =
     ap (parts_fault (tag_fault Enum) at) (split_folds (ends_part EnumItems) plus_folds text)
     ∙ parts_fold (tag_fault Enum) (tag_fault_folds Enum) at (slice_split (ends_part EnumItems) text)
 
-behind_folds : (text : List ℕ) → fault_behind_e2u (folded text) ≡ fault_behind_e2u text
-behind_folds [] = refl
-behind_folds (b ∷ rest) =
+after_folds : (text : List ℕ) → fault_after_e2u (folded text) ≡ fault_after_e2u text
+after_folds [] = refl
+after_folds (b ∷ rest) =
     ap (λ x. cond x (form_fault EnumItems 4 (folded rest)) (Some (Trailing 3))) (folded_is plus (lit< tt) b)
     ∙ ap (λ o. cond (b == plus) o (Some (Trailing 3))) (services_parts_fold 4 rest)
 
 -- the first fault of services does not depend on case
 pub services_fault_folds : (text : List ℕ) → services_fault (folded text) ≡ services_fault text
 services_fault_folds text =
-    ap (λ n. cond (n == 0) (Some Empty) (cond (not (bytes_eq (folded (take 3 (folded text))) e2u)) (Some NoE2u) (fault_behind_e2u (drop 3 (folded text))))) (length-map text folded_byte)
-    ∙ ap (λ t. cond (length text == 0) (Some Empty) (cond (not (bytes_eq t e2u)) (Some NoE2u) (fault_behind_e2u (drop 3 (folded text))))) (ap folded (take-map folded_byte 3 text) ∙ folded-folded (take 3 text))
-    ∙ ap (λ o. cond (length text == 0) (Some Empty) (cond (not (bytes_eq (folded (take 3 text)) e2u)) (Some NoE2u) o)) (ap fault_behind_e2u (drop-map folded_byte 3 text) ∙ behind_folds (drop 3 text))
+    ap (λ n. cond (n == 0) (Some Empty)
+    (cond (not (bytes_eq (folded (take 3 (folded text))) e2u)) (Some NoE2u)
+    (fault_after_e2u (drop 3 (folded text))))) (length-map text folded_byte)
+    ∙ ap (λ t. cond (length text == 0) (Some Empty)
+    (cond (not (bytes_eq t e2u)) (Some NoE2u) (fault_after_e2u (drop 3 (folded text)))))
+    (ap folded (take-map folded_byte 3 text) ∙ folded-folded (take 3 text))
+    ∙ ap (λ o. cond (length text == 0) (Some Empty) (cond (not (bytes_eq (folded (take 3 text)) e2u)) (Some NoE2u) o))
+    (ap fault_after_e2u (drop-map folded_byte 3 text) ∙ after_folds (drop 3 text))
 
 pub tags_of_folds : (text : List ℕ) → tags_of (folded text) ≡ map folded (tags_of text)
 tags_of_folds text = split_folds (λ b. b == colon) (is_folds colon (lit< tt)) text
@@ -206,13 +219,16 @@ all_same p q same [] = refl
 all_same p q same (x ∷ xs) = ap (λ b. b && list_all p xs) (same x) ∙ ap (λ b. q x && b) (all_same p q same xs)
 
 -- the same items are served by what serves the same
-served_same : (is_one serves also : Item → Bool) → ((x : Item) → serves x ≡ also x) → (wanted : Option (List ℕ)) → some_served is_one serves wanted ≡ some_served is_one also wanted
+served_same : (is_one serves also : Item → Bool) → ((x : Item) → serves x ≡ also x) → (wanted : Option (List ℕ))
+    → some_served is_one serves wanted ≡ some_served is_one also wanted
 served_same is_one serves also same None = refl
 served_same is_one serves also same (Some text) =
     any_same (λ w. is_one w && serves w) (λ w. is_one w && also w) (λ w. ap (λ b. is_one w && b) (same w)) (wanted_items text)
 
 -- .. and a folded list by what does not see case
-served_folds : (is_one serves : Item → Bool) → ((x : Item) → is_one (map folded x) ≡ is_one x) → ((x : Item) → serves (map folded x) ≡ serves x) → (wanted : Option (List ℕ)) → some_served is_one serves (option_map folded wanted) ≡ some_served is_one serves wanted
+served_folds : (is_one serves : Item → Bool) → ((x : Item) → is_one (map folded x) ≡ is_one x)
+    → ((x : Item) → serves (map folded x) ≡ serves x) → (wanted : Option (List ℕ))
+    → some_served is_one serves (option_map folded wanted) ≡ some_served is_one serves wanted
 served_folds is_one serves same also None = refl
 served_folds is_one serves same also (Some text) =
     ap (list_any (λ w. is_one w && serves w)) (items_fold comma (lit< tt) text)
@@ -232,7 +248,8 @@ serve_folded_wanted wanted items =
     served_folds (is_item Enum) (λ one. list_any (begins one) items) (item_folds Enum)
     (λ w. any_same (begins (map folded w)) (begins w) (begins_folds_wanted w) items) wanted
 
-pub serve_folded_services : (wanted : Option (List ℕ)) (services : List ℕ) → items_serve wanted (services_items (folded services)) ≡ items_serve wanted (services_items services)
+pub serve_folded_services : (wanted : Option (List ℕ)) (services : List ℕ)
+    → items_serve wanted (services_items (folded services)) ≡ items_serve wanted (services_items services)
 serve_folded_services wanted services = ap (items_serve wanted) (services_items_fold services) ∙ serve_folded_items wanted (services_items services)
 
 -- services of S-NAPTR offer the same
@@ -254,7 +271,8 @@ others_fold (tag ∷ tags) = refl
 offers_folds_field : (wanted field : Item) → offers wanted (map folded field) ≡ offers wanted field
 offers_folds_field wanted field =
     ap (λ t. same_tag (first_tag wanted) t && list_all (λ tag. list_any (same_tag tag) (other_tags (map folded field))) (other_tags wanted)) (first_folds field)
-    ∙ ap (λ b. b && list_all (λ tag. list_any (same_tag tag) (other_tags (map folded field))) (other_tags wanted)) (same_tag_right (first_tag wanted) (first_tag field))
+    ∙ ap (λ b. b && list_all (λ tag. list_any (same_tag tag) (other_tags (map folded field))) (other_tags wanted))
+    (same_tag_right (first_tag wanted) (first_tag field))
     ∙ ap (λ l. same_tag (first_tag wanted) (first_tag field) && list_all (λ tag. list_any (same_tag tag) l) (other_tags wanted)) (others_fold field)
     ∙ ap (λ b. same_tag (first_tag wanted) (first_tag field) && b)
     (all_same (λ tag. list_any (same_tag tag) (map folded (other_tags field))) (λ tag. list_any (same_tag tag) (other_tags field))
@@ -263,7 +281,8 @@ offers_folds_field wanted field =
 offers_folds_wanted : (field wanted : Item) → offers (map folded wanted) field ≡ offers wanted field
 offers_folds_wanted field wanted =
     ap (λ t. same_tag t (first_tag field) && list_all (λ tag. list_any (same_tag tag) (other_tags field)) (other_tags (map folded wanted))) (first_folds wanted)
-    ∙ ap (λ b. b && list_all (λ tag. list_any (same_tag tag) (other_tags field)) (other_tags (map folded wanted))) (same_tag_left (first_tag wanted) (first_tag field))
+    ∙ ap (λ b. b && list_all (λ tag. list_any (same_tag tag) (other_tags field)) (other_tags (map folded wanted)))
+    (same_tag_left (first_tag wanted) (first_tag field))
     ∙ ap (λ l. same_tag (first_tag wanted) (first_tag field) && list_all (λ tag. list_any (same_tag tag) (other_tags field)) l) (others_fold wanted)
     ∙ ap (λ b. same_tag (first_tag wanted) (first_tag field) && b)
     (all_fold (λ tag. list_any (same_tag tag) (other_tags field)) folded
@@ -272,7 +291,9 @@ offers_folds_wanted field wanted =
 pub snaptr_folded_wanted : (wanted : Option (List ℕ)) (field : Item) → snaptr_serves (option_map folded wanted) field ≡ snaptr_serves wanted field
 snaptr_folded_wanted wanted field = served_folds is_pair (λ one. offers one field) pair_folds (offers_folds_wanted field) wanted
 
-pub snaptr_folded_services : (wanted : Option (List ℕ)) (services : List ℕ) → snaptr_serves wanted (tags_of (folded services)) ≡ snaptr_serves wanted (tags_of services)
+pub snaptr_folded_services : (wanted : Option (List ℕ)) (services : List ℕ)
+    → snaptr_serves wanted (tags_of (folded services)) ≡ snaptr_serves wanted (tags_of services)
 snaptr_folded_services wanted services =
     ap (snaptr_serves wanted) (tags_of_folds services)
-    ∙ served_same is_pair (λ one. offers one (map folded (tags_of services))) (λ one. offers one (tags_of services)) (λ one. offers_folds_field one (tags_of services)) wanted
+    ∙ served_same is_pair (λ one. offers one (map folded (tags_of services))) (λ one. offers one (tags_of services))
+    (λ one. offers_folds_field one (tags_of services)) wanted

@@ -1,5 +1,6 @@
 -- Parts have no fault exactly where each is what it is to be.
-use Rattle.std.proofs.Common.{◌≡◌, ℕ, ◌+◌, ◌<◌, ◌≤◌, Bool, true, false, not, ◌==◌, cond, nat_lt, List, [], ◌∷◌, ◌++◌, length, map, ◌||◌, Option, Some, None, refl, sym, ap, ◌∙◌, subst, inl, inr, arith}
+use Rattle.std.proofs.Common.{◌≡◌, ℕ, ◌+◌, ◌<◌, ◌≤◌, Bool, true, false, not, ◌==◌, cond, nat_lt, List, [], ◌∷◌, ◌++◌}
+use Rattle.std.proofs.Common.{length, map, ◌||◌, Option, Some, None, refl, sym, ap, ◌∙◌, subst, inl, inr, arith}
 use Rattle.std.proofs.lemmas.Bool.{cases_lt, ltb-false, le-ltb, ne_eqb, true≢false, cond-false}
 use Rattle.std.proofs.lemmas.List.Elements.{All-append, All-cons, All-head, All-nil, All-tail, All-weaker}
 use Rattle.std.proofs.lemmas.List.Splits.{join_with_byte-slice_split, slice_split_none}
@@ -21,7 +22,9 @@ record Fills (size run : ℕ) : Type 0 where
   short : run ≤ 32
   whole : size ≤ run
 
-by_tests : (at size run : ℕ) (y z : Bool) → nat_lt 32 run ≡ y → nat_lt run size ≡ z → ◌≡◌ {A = Option ServiceFault} (cond y (Some (TagTooLong at)) (cond z (Some (Trailing (at + run))) None)) None → Fills size run
+by_tests : (at size run : ℕ) (y z : Bool) → nat_lt 32 run ≡ y → nat_lt run size ≡ z
+    → ◌≡◌ {A = Option ServiceFault} (cond y (Some (TagTooLong at)) (cond z (Some (Trailing (at + run))) None)) None
+    → Fills size run
 by_tests at size run true z is_y is_z none = absurd (cc)
 by_tests at size run false true is_y is_z none = absurd (cc)
 by_tests at size run false false is_y is_z none = record {
@@ -76,13 +79,17 @@ first_none : (o p : Option ServiceFault) → option_or o p ≡ None → (o ≡ N
 first_none None p is = (refl, is)
 first_none (Some f) p is = absurd (cc)
 
-pub all_of_none : (fault : ℕ → List ℕ → Option ServiceFault) (P : List ℕ → Type 0) → ((at : ℕ) (part : List ℕ) → fault at part ≡ None → P part) → (at : ℕ) (parts : List (List ℕ)) → parts_fault fault at parts ≡ None → All P parts
+pub all_of_none : (fault : ℕ → List ℕ → Option ServiceFault) (P : List ℕ → Type 0)
+    → ((at : ℕ) (part : List ℕ) → fault at part ≡ None → P part) → (at : ℕ) (parts : List (List ℕ))
+    → parts_fault fault at parts ≡ None → All P parts
 all_of_none fault P each at [] none = All-nil P
 all_of_none fault P each at (part ∷ parts) none =
     let both = first_none (fault at part) (parts_fault fault (at + (length part + 1)) parts) none in
     All-cons P part parts (each at part both.0) (all_of_none fault P each (at + (length part + 1)) parts both.1)
 
-pub none_of_all : (fault : ℕ → List ℕ → Option ServiceFault) (P : List ℕ → Type 0) → ((at : ℕ) (part : List ℕ) → P part → fault at part ≡ None) → (at : ℕ) (parts : List (List ℕ)) → All P parts → parts_fault fault at parts ≡ None
+pub none_of_all : (fault : ℕ → List ℕ → Option ServiceFault) (P : List ℕ → Type 0)
+    → ((at : ℕ) (part : List ℕ) → P part → fault at part ≡ None) → (at : ℕ) (parts : List (List ℕ)) → All P parts
+    → parts_fault fault at parts ≡ None
 none_of_all fault P each at [] all = refl
 none_of_all fault P each at (part ∷ parts) all =
     ap (λ o. option_or o (parts_fault fault (at + (length part + 1)) parts)) (each at part (All-head P part parts all))
@@ -97,7 +104,8 @@ parts_of_tags alphabet at parts tags = none_of_all (tag_fault alphabet) (IsTag a
 -- a tag lacks what is no byte of a tag
 pub tag_lacks : (alphabet : Alphabet) (byte : ℕ) → is_tag_byte alphabet byte ≡ false → (tag : List ℕ) → IsTag alphabet tag → Lacks byte tag
 tag_lacks alphabet byte outside tag is =
-    All-weaker (λ b. is_tag_byte alphabet b ≡ true) (λ b. (b == byte) ≡ false) (λ b inside. ne_eqb b byte (λ e. true≢false (sym inside ∙ ap (is_tag_byte alphabet) e ∙ outside))) tag is.bytes
+    All-weaker (λ b. is_tag_byte alphabet b ≡ true) (λ b. (b == byte) ≡ false)
+    (λ b inside. ne_eqb b byte (λ e. true≢false (sym inside ∙ ap (is_tag_byte alphabet) e ∙ outside))) tag is.bytes
 
 -- a text has no fault as a pair exactly where its tags are a service and at most one protocol
 
@@ -145,7 +153,8 @@ part_of_pair at part pair =
           let protocol : List ℕ = after_first (λ b. b == colon) part in
           let is = is_cut part less in
           let size : length (tags_of protocol) + 1 ≤ 2 = omega (arith, ap length is.1, pair.most) in
-          let single : tags_of protocol ≡ protocol ∷ [] = only_tag protocol (tags_of protocol) refl (some_part (λ b. b == colon) protocol) (omega (arith, size)) in
+          let single : tags_of protocol ≡ protocol ∷ [] =
+          only_tag protocol (tags_of protocol) refl (some_part (λ b. b == colon) protocol) (omega (arith, size)) in
           parts_of_tags Snaptr at (cut_once part) (subst (All (IsTag Snaptr)) (is.1 ∙ ap (λ l. service ∷ l) single ∙ sym is.0) pair.is.tags)
       | inr past ↦
           let whole : position_or_len (λ b. b == colon) part ≡ length part = omega (arith, past, prefix_len-le-length (λ x. not (x == colon)) part) in
@@ -153,7 +162,7 @@ part_of_pair at part pair =
           parts_of_tags Snaptr at (cut_once part) (subst (All (IsTag Snaptr)) (is.1 ∙ sym is.0) pair.is.tags)
     ]
 
--- all of a front, and of what stands behind it
+-- all of a front, and of what stands after it
 
 All-front : (P : List ℕ → Type 0) (xs ys : List (List ℕ)) → All P (xs ++ ys) → All P xs
 All-front P [] ys each = All-nil P
@@ -178,12 +187,16 @@ tags_of_items alphabet (t ∷ ts) items =
 
 -- tags between colons and separators have no fault exactly where the items between separators are items
 
-pub items_without_fault : (alphabet : Alphabet) (separator at : ℕ) (text : List ℕ) → parts_fault (tag_fault alphabet) at (slice_split (λ b. b == colon || b == separator) text) ≡ None → All (IsItem alphabet) (items_of separator text)
+pub items_without_fault : (alphabet : Alphabet) (separator at : ℕ) (text : List ℕ)
+    → parts_fault (tag_fault alphabet) at (slice_split (λ b. b == colon || b == separator) text) ≡ None
+    → All (IsItem alphabet) (items_of separator text)
 items_without_fault alphabet separator at text none =
     items_of_tags alphabet (cut separator text)
     (subst (All (IsTag alphabet)) (cut_twice (λ b. b == colon) (λ b. b == separator) text) (tags_of_parts alphabet at _ none))
 
-pub no_fault_of_items : (alphabet : Alphabet) (separator at : ℕ) (text : List ℕ) → All (IsItem alphabet) (items_of separator text) → parts_fault (tag_fault alphabet) at (slice_split (λ b. b == colon || b == separator) text) ≡ None
+pub no_fault_of_items : (alphabet : Alphabet) (separator at : ℕ) (text : List ℕ)
+    → All (IsItem alphabet) (items_of separator text)
+    → parts_fault (tag_fault alphabet) at (slice_split (λ b. b == colon || b == separator) text) ≡ None
 no_fault_of_items alphabet separator at text items =
     ap (parts_fault (tag_fault alphabet) at) (cut_twice (λ b. b == colon) (λ b. b == separator) text)
     ∙ parts_of_tags alphabet at _ (tags_of_items alphabet (cut separator text) items)

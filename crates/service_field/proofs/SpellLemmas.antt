@@ -1,5 +1,6 @@
 -- Texts without a fault spell their items, and texts that spell items have no fault.
-use Rattle.std.proofs.Common.{◌≡◌, ℕ, ◌<◌, Bool, true, false, not, ◌==◌, cond, List, [], ◌∷◌, ◌++◌, length, take, drop, map, bytes_eq, Option, Some, None, refl, sym, ap, ◌∙◌, subst, arith}
+use Rattle.std.proofs.Common.{◌≡◌, ℕ, ◌<◌, Bool, true, false, not, ◌==◌, cond, List, [], ◌∷◌, ◌++◌, length, take, drop}
+use Rattle.std.proofs.Common.{map, bytes_eq, Option, Some, None, refl, sym, ap, ◌∙◌, subst, arith}
 use Rattle.std.proofs.lemmas.Bool.{eqb-true, ne_eqb, cond-false}
 use Rattle.std.proofs.lemmas.List.{append-nil, drop-drop, length-append, length-map}
 use Rattle.std.proofs.lemmas.Slice.Eq.{bytes_eq-Decides}
@@ -9,7 +10,7 @@ use Rattle.std.specs.List.{All, flat_map, join_with_byte}
 use Rattle.enum_base.specs.Folding.{folded}
 use Rattle.service_field.specs.Tags.{AreItems, IsItem, IsPair, IsTag, Item, colon, is_tag_byte, item_text, items_of, tags_of}
 use Rattle.service_field.specs.Services.{SpellsServices, SpellsSnaptr, SpellsSnaptrWanted, SpellsWanted, comma, plus, e2u, services_items, wanted_items}
-use Rattle.service_field.specs.Faults.{fault_behind_e2u, form_fault, pair_fault, services_fault, snaptr_fault, snaptr_wanted_fault, wanted_fault, whole_fault}
+use Rattle.service_field.specs.Faults.{fault_after_e2u, form_fault, pair_fault, services_fault, snaptr_fault, snaptr_wanted_fault, wanted_fault, whole_fault}
 use Rattle.service_field.specs.declared.alphabet.Alphabet.{Alphabet}
 use Rattle.service_field.specs.declared.alphabet.Alphabet.TheVariants.{Enum, Snaptr}
 use Rattle.service_field.specs.declared.form.Form.{Form}
@@ -17,7 +18,9 @@ use Rattle.service_field.specs.declared.form.Form.TheVariants.{EnumItems, EnumLi
 use Rattle.service_field.specs.declared.fault.ServiceFault.{ServiceFault}
 use Rattle.service_field.specs.declared.fault.ServiceFault.TheVariants.{Empty, NoE2u, Trailing}
 use Rattle.service_field.proofs.SplitLemmas.{Lacks, cut, cut-join, join_lacks, some_part}
-use Rattle.service_field.proofs.PartLemmas.{all_of_none, items_without_fault, no_fault_of_items, none_of_all, pair_of_part, part_of_pair, parts_of_tags, tag_lacks, tag_some, tags_of_parts}
+use Rattle.service_field.proofs.PartLemmas.{all_of_none, items_without_fault, no_fault_of_items, none_of_all}
+use Rattle.service_field.proofs.PartLemmas.{pair_of_part, part_of_pair, parts_of_tags, tag_lacks, tag_some}
+use Rattle.service_field.proofs.PartLemmas.{tags_of_parts}
 
 -- the text of items
 
@@ -28,7 +31,8 @@ text_of_tags (t ∷ ts) = ap (λ x. x ∷ map item_text (map tags_of ts)) (join_
 pub text_of_items : (separator : ℕ) (text : List ℕ) → join_with_byte separator (map item_text (items_of separator text)) ≡ text
 text_of_items separator text = ap (join_with_byte separator) (text_of_tags (cut separator text)) ∙ join_with_byte-slice_split separator text
 
-item_lacks : (alphabet : Alphabet) (byte : ℕ) → is_tag_byte alphabet byte ≡ false → (colon == byte) ≡ false → (item : Item) → IsItem alphabet item → Lacks byte (item_text item)
+item_lacks : (alphabet : Alphabet) (byte : ℕ) → is_tag_byte alphabet byte ≡ false → (colon == byte) ≡ false
+    → (item : Item) → IsItem alphabet item → Lacks byte (item_text item)
 item_lacks alphabet byte outside other item is =
     join_lacks byte colon item other (All-weaker (IsTag alphabet) (Lacks byte) (tag_lacks alphabet byte outside) item is.tags)
 
@@ -49,9 +53,14 @@ tags_again alphabet (item ∷ items) each =
     ∙ ap (λ xs. item ∷ xs) (tags_again alphabet items (All-tail (IsItem alphabet) item items each))
 
 -- items are read again from their text
-pub items_again : (alphabet : Alphabet) (separator : ℕ) → is_tag_byte alphabet separator ≡ false → (colon == separator) ≡ false → (items : List Item) → All (IsItem alphabet) items → 0 < length items → items_of separator (join_with_byte separator (map item_text items)) ≡ items
+pub items_again : (alphabet : Alphabet) (separator : ℕ) → is_tag_byte alphabet separator ≡ false
+    → (colon == separator) ≡ false → (items : List Item) → All (IsItem alphabet) items → 0 < length items
+    → items_of separator (join_with_byte separator (map item_text items)) ≡ items
 items_again alphabet separator outside other items each some =
-    ap (map tags_of) (cut-join separator (map item_text items) (rw length-map some) (All-map (Lacks separator) item_text items (All-weaker (IsItem alphabet) (λ item. Lacks separator (item_text item)) (item_lacks alphabet separator outside other) items each)))
+    ap (map tags_of) (cut-join separator (map item_text items) (rw length-map some)
+    (All-map (Lacks separator) item_text items
+    (All-weaker (IsItem alphabet) (λ item. Lacks separator (item_text item))
+    (item_lacks alphabet separator outside other) items each)))
     ∙ tags_again alphabet items each
 
 -- a + before each item is a + before their join
@@ -66,31 +75,36 @@ some_item separator text = rw length-map (some_part (λ b. b == separator) text)
 
 -- services without a fault spell their items
 
-by_head : (text : List ℕ) (x y : Bool) → bytes_eq (folded (take 3 text)) e2u ≡ y → ◌≡◌ {A = Option ServiceFault} (cond x (Some Empty) (cond (not y) (Some NoE2u) (fault_behind_e2u (drop 3 text)))) None → (folded (take 3 text) ≡ e2u) × (fault_behind_e2u (drop 3 text) ≡ None)
+by_head : (text : List ℕ) (x y : Bool) → bytes_eq (folded (take 3 text)) e2u ≡ y
+    → ◌≡◌ {A = Option ServiceFault}
+    (cond x (Some Empty) (cond (not y) (Some NoE2u) (fault_after_e2u (drop 3 text)))) None
+    → (folded (take 3 text) ≡ e2u) × (fault_after_e2u (drop 3 text) ≡ None)
 by_head text true y is none = absurd (cc)
 by_head text false false is none = absurd (cc)
 by_head text false true is none = ((bytes_eq-Decides (folded (take 3 text)) e2u).0 is, none)
 
-by_sign : (b : ℕ) (rest : List ℕ) (x : Bool) → (b == plus) ≡ x → ◌≡◌ {A = Option ServiceFault} (cond x (form_fault EnumItems 4 rest) (Some (Trailing 3))) None → (b ∷ rest ≡ plus ∷ rest) × (form_fault EnumItems 4 rest ≡ None)
+by_sign : (b : ℕ) (rest : List ℕ) (x : Bool) → (b == plus) ≡ x
+    → ◌≡◌ {A = Option ServiceFault} (cond x (form_fault EnumItems 4 rest) (Some (Trailing 3))) None
+    → (b ∷ rest ≡ plus ∷ rest) × (form_fault EnumItems 4 rest ≡ None)
 by_sign b rest true is none = (ap (λ c. c ∷ rest) (eqb-true b plus is), none)
 by_sign b rest false is none = absurd (cc)
 
-behind_sign : (text : List ℕ) → fault_behind_e2u text ≡ None → (text ≡ plus ∷ drop 1 text) × (form_fault EnumItems 4 (drop 1 text) ≡ None)
-behind_sign [] none = absurd (cc)
-behind_sign (b ∷ rest) none = by_sign b rest (b == plus) refl none
+after_sign : (text : List ℕ) → fault_after_e2u text ≡ None → (text ≡ plus ∷ drop 1 text) × (form_fault EnumItems 4 (drop 1 text) ≡ None)
+after_sign [] none = absurd (cc)
+after_sign (b ∷ rest) none = by_sign b rest (b == plus) refl none
 
 pub services_spelled : (text : List ℕ) → services_fault text ≡ None → SpellsServices text (services_items text)
 services_spelled text none =
     let head = by_head text (length text == 0) (bytes_eq (folded (take 3 text)) e2u) refl none in
-    let behind = behind_sign (drop 3 text) head.1 in
+    let after = after_sign (drop 3 text) head.1 in
     let later : drop 1 (drop 3 text) ≡ drop 4 text = drop-drop 1 3 text in
     record {
       head = head.0;
       rest =
-          behind.0 ∙ ap (λ t. plus ∷ t) (later ∙ sym (text_of_items plus (drop 4 text)))
+          after.0 ∙ ap (λ t. plus ∷ t) (later ∙ sym (text_of_items plus (drop 4 text)))
           ∙ sym (signs_before (services_items text) (some_item plus (drop 4 text)));
       are = record {
-        each = items_without_fault Enum plus 4 (drop 4 text) (ap (form_fault EnumItems 4) (sym later) ∙ behind.1);
+        each = items_without_fault Enum plus 4 (drop 4 text) (ap (form_fault EnumItems 4) (sym later) ∙ after.1);
         some = some_item plus (drop 4 text);
       };
     }
@@ -103,19 +117,20 @@ not_empty (x ∷ xs) rest b is = ne_eqb (length (x ∷ xs)) 0 (λ e. omega (arit
 pub services_read : (text : List ℕ) (items : List Item) → SpellsServices text items → (services_fault text ≡ None) × (items ≡ services_items text)
 services_read text items spelled =
     let joined : List ℕ = join_with_byte plus (map item_text items) in
-    let behind : drop 3 text ≡ plus ∷ joined = spelled.rest ∙ signs_before items spelled.are.some in
-    let later : drop 4 text ≡ joined = sym (drop-drop 1 3 text) ∙ ap (drop 1) behind in
+    let after : drop 3 text ≡ plus ∷ joined = spelled.rest ∙ signs_before items spelled.are.some in
+    let later : drop 4 text ≡ joined = sym (drop-drop 1 3 text) ∙ ap (drop 1) after in
     let again : items_of plus joined ≡ items = items_again Enum plus refl refl items spelled.are.each spelled.are.some in (
-      cond-false (length text == 0) (Some Empty) _ (not_empty text joined plus behind)
-          ∙ ap (λ b. cond (not b) (Some NoE2u) (fault_behind_e2u (drop 3 text))) ((bytes_eq-Decides (folded (take 3 text)) e2u).1 spelled.head)
-          ∙ ap fault_behind_e2u behind
+      cond-false (length text == 0) (Some Empty) _ (not_empty text joined plus after)
+          ∙ ap (λ b. cond (not b) (Some NoE2u) (fault_after_e2u (drop 3 text))) ((bytes_eq-Decides (folded (take 3 text)) e2u).1 spelled.head)
+          ∙ ap fault_after_e2u after
           ∙ no_fault_of_items Enum plus 4 joined (subst (All (IsItem Enum)) (sym again) spelled.are.each),
       sym again ∙ ap (items_of plus) (sym later),
     )
 
 -- the same of texts that are all parts
 
-by_size : (form : Form) (text : List ℕ) (x : Bool) → ◌≡◌ {A = Option ServiceFault} (cond x (Some Empty) (form_fault form 0 text)) None → form_fault form 0 text ≡ None
+by_size : (form : Form) (text : List ℕ) (x : Bool)
+    → ◌≡◌ {A = Option ServiceFault} (cond x (Some Empty) (form_fault form 0 text)) None → form_fault form 0 text ≡ None
 by_size form text true none = absurd (cc)
 by_size form text false none = none
 
@@ -137,7 +152,10 @@ item_some alphabet item is = some_byte colon item (All-weaker (IsTag alphabet) (
 
 list_some : (alphabet : Alphabet) (items : List Item) → All (IsItem alphabet) items → 0 < length items → 0 < length (join_with_byte comma (map item_text items))
 list_some alphabet items each some =
-    some_byte comma (map item_text items) (All-map (λ part. 0 < length part) item_text items (All-weaker (IsItem alphabet) (λ item. 0 < length (item_text item)) (item_some alphabet) items each)) (rw length-map some)
+    some_byte comma (map item_text items)
+    (All-map (λ part. 0 < length part) item_text items
+    (All-weaker (IsItem alphabet) (λ item. 0 < length (item_text item)) (item_some alphabet) items each))
+    (rw length-map some)
 
 -- .. wanted lists of ENUM
 
@@ -152,7 +170,8 @@ wanted_read text items spelled =
     let joined : List ℕ = join_with_byte comma (map item_text items) in
     let again : items_of comma joined ≡ items = items_again Enum comma refl refl items spelled.are.each spelled.are.some in
     let none : wanted_fault joined ≡ None =
-    whole_none EnumList joined (list_some Enum items spelled.are.each spelled.are.some) (no_fault_of_items Enum comma 0 joined (subst (All (IsItem Enum)) (sym again) spelled.are.each)) in
+    whole_none EnumList joined (list_some Enum items spelled.are.each spelled.are.some)
+    (no_fault_of_items Enum comma 0 joined (subst (All (IsItem Enum)) (sym again) spelled.are.each)) in
     (ap wanted_fault spelled.whole ∙ none, sym again ∙ ap (items_of comma) (sym spelled.whole))
 
 -- .. services of S-NAPTR
@@ -170,7 +189,8 @@ pub snaptr_read : (text : List ℕ) (item : Item) → SpellsSnaptr text item →
 snaptr_read text item spelled =
     let again : tags_of (item_text item) ≡ item = item_again Snaptr item spelled.is in
     let none : snaptr_fault (item_text item) ≡ None =
-    whole_none SnaptrTags (item_text item) (item_some Snaptr item spelled.is) (parts_of_tags Snaptr 0 (tags_of (item_text item)) (subst (All (IsTag Snaptr)) (sym again) spelled.is.tags)) in
+    whole_none SnaptrTags (item_text item) (item_some Snaptr item spelled.is)
+    (parts_of_tags Snaptr 0 (tags_of (item_text item)) (subst (All (IsTag Snaptr)) (sym again) spelled.is.tags)) in
     (ap snaptr_fault spelled.whole ∙ none, sym again ∙ ap tags_of (sym spelled.whole))
 
 -- .. wanted lists of S-NAPTR
@@ -181,13 +201,16 @@ pairs_of_all texts all = All-map IsPair tags_of texts all
 all_of_pairs : (texts : List (List ℕ)) → All IsPair (map tags_of texts) → All (λ text. IsPair (tags_of text)) texts
 all_of_pairs [] all = All-nil (λ text. IsPair (tags_of text))
 all_of_pairs (t ∷ ts) all =
-    All-cons (λ text. IsPair (tags_of text)) t ts (All-head IsPair (tags_of t) (map tags_of ts) all) (all_of_pairs ts (All-tail IsPair (tags_of t) (map tags_of ts) all))
+    All-cons (λ text. IsPair (tags_of text)) t ts (All-head IsPair (tags_of t) (map tags_of ts) all)
+    (all_of_pairs ts (All-tail IsPair (tags_of t) (map tags_of ts) all))
 
 pub snaptr_wanted_spelled : (text : List ℕ) → snaptr_wanted_fault text ≡ None → SpellsSnaptrWanted text (wanted_items text)
 snaptr_wanted_spelled text none = record {
   whole = sym (text_of_items comma text);
   are = record {
-    each = pairs_of_all (cut comma text) (all_of_none pair_fault (λ part. IsPair (tags_of part)) pair_of_part 0 (cut comma text) (parts_none SnaptrList text none));
+    each = pairs_of_all (cut comma text)
+        (all_of_none pair_fault (λ part. IsPair (tags_of part)) pair_of_part 0 (cut comma text)
+        (parts_none SnaptrList text none));
     some = some_item comma text;
   };
 }
@@ -199,23 +222,25 @@ snaptr_wanted_read text items spelled =
     let again : items_of comma joined ≡ items = items_again Snaptr comma refl refl items each spelled.are.some in
     let none : snaptr_wanted_fault joined ≡ None =
     whole_none SnaptrList joined (list_some Snaptr items each spelled.are.some)
-    (none_of_all pair_fault (λ part. IsPair (tags_of part)) part_of_pair 0 (cut comma joined) (all_of_pairs (cut comma joined) (subst (All IsPair) (sym again) spelled.are.each))) in
+    (none_of_all pair_fault (λ part. IsPair (tags_of part)) part_of_pair 0 (cut comma joined)
+    (all_of_pairs (cut comma joined) (subst (All IsPair) (sym again) spelled.are.each))) in
     (ap snaptr_wanted_fault spelled.whole ∙ none, sym again ∙ ap (items_of comma) (sym spelled.whole))
 
 -- what the readers of services answer
 
-pub faulty_spells_nothing : {R : Type 0} (text : List ℕ) (items : List Item) (fault : ServiceFault) → services_fault text ≡ Some fault → SpellsServices text items → R
+pub faulty_spells_nothing : {R : Type 0} (text : List ℕ) (items : List Item) (fault : ServiceFault)
+    → services_fault text ≡ Some fault → SpellsServices text items → R
 faulty_spells_nothing text items fault is spelled =
     let e : ◌≡◌ {A = Option ServiceFault} (Some fault) None = sym is ∙ (services_read text items spelled).0 in cc
 
-pub spelled_behind : (text behind : List ℕ) → behind ≡ drop 4 text → services_fault text ≡ None → SpellsServices text (items_of plus behind)
-spelled_behind text behind is none = subst (λ t. SpellsServices text (items_of plus t)) (sym is) (services_spelled text none)
+pub spelled_after : (text after : List ℕ) → after ≡ drop 4 text → services_fault text ≡ None → SpellsServices text (items_of plus after)
+spelled_after text after is none = subst (λ t. SpellsServices text (items_of plus t)) (sym is) (services_spelled text none)
 
-pub items_behind : (text behind : List ℕ) → behind ≡ drop 4 text → services_fault text ≡ None → AreItems (IsItem Enum) (items_of plus behind)
-items_behind text behind is none = (spelled_behind text behind is none).are
+pub items_after : (text after : List ℕ) → after ≡ drop 4 text → services_fault text ≡ None → AreItems (IsItem Enum) (items_of plus after)
+items_after text after is none = (spelled_after text after is none).are
 
-pub read_behind : (text behind : List ℕ) (items : List Item) → behind ≡ drop 4 text → SpellsServices text items → items_of plus behind ≡ items
-read_behind text behind items is spelled = ap (items_of plus) is ∙ sym (services_read text items spelled).1
+pub read_after : (text after : List ℕ) (items : List Item) → after ≡ drop 4 text → SpellsServices text items → items_of plus after ≡ items
+read_after text after items is spelled = ap (items_of plus) is ∙ sym (services_read text items spelled).1
 
 -- what a reader of a text that is all parts answers, which has no fault exactly where the text spells some value
 
@@ -225,10 +250,12 @@ none_is o fault is none = let e : ◌≡◌ {A = Option ServiceFault} (Some faul
 pub faulty_spells_no_service : {R : Type 0} (text : List ℕ) (item : Item) (fault : ServiceFault) → snaptr_fault text ≡ Some fault → SpellsSnaptr text item → R
 faulty_spells_no_service text item fault is spelled = none_is (snaptr_fault text) fault is (snaptr_read text item spelled).0
 
-pub faulty_spells_no_list : {R : Type 0} (text : List ℕ) (items : List Item) (fault : ServiceFault) → wanted_fault text ≡ Some fault → SpellsWanted text items → R
+pub faulty_spells_no_list : {R : Type 0} (text : List ℕ) (items : List Item) (fault : ServiceFault)
+    → wanted_fault text ≡ Some fault → SpellsWanted text items → R
 faulty_spells_no_list text items fault is spelled = none_is (wanted_fault text) fault is (wanted_read text items spelled).0
 
-pub faulty_spells_no_pairs : {R : Type 0} (text : List ℕ) (items : List Item) (fault : ServiceFault) → snaptr_wanted_fault text ≡ Some fault → SpellsSnaptrWanted text items → R
+pub faulty_spells_no_pairs : {R : Type 0} (text : List ℕ) (items : List Item) (fault : ServiceFault)
+    → snaptr_wanted_fault text ≡ Some fault → SpellsSnaptrWanted text items → R
 faulty_spells_no_pairs text items fault is spelled = none_is (snaptr_wanted_fault text) fault is (snaptr_wanted_read text items spelled).0
 
 -- a text spells one list at most

@@ -20,11 +20,13 @@ pub cut-join : (separator : ℕ) (parts : List (List ℕ)) → 0 < length parts 
 cut-join separator [] some each = absurd (omega (arith, some))
 cut-join separator (x ∷ []) some each = slice_split_none (λ b. b == separator) x (All-head (Lacks separator) x [] each)
 cut-join separator (x ∷ y ∷ xs) some each =
-    slice_split_at (λ b. b == separator) x separator (join_with_byte separator (y ∷ xs)) (All-head (Lacks separator) x (y ∷ xs) each) (eq-eqb separator separator refl)
+    slice_split_at (λ b. b == separator) x separator (join_with_byte separator (y ∷ xs))
+    (All-head (Lacks separator) x (y ∷ xs) each) (eq-eqb separator separator refl)
     ∙ ap (λ t. x ∷ t) (cut-join separator (y ∷ xs) (omega arith) (All-tail (Lacks separator) x (y ∷ xs) each))
 
 -- a join of parts without a byte lacks it too
-pub join_lacks : (byte separator : ℕ) (parts : List (List ℕ)) → (separator == byte) ≡ false → All (Lacks byte) parts → Lacks byte (join_with_byte separator parts)
+pub join_lacks : (byte separator : ℕ) (parts : List (List ℕ)) → (separator == byte) ≡ false → All (Lacks byte) parts
+    → Lacks byte (join_with_byte separator parts)
 join_lacks byte separator [] other each = λ k d below. absurd (omega (arith, below))
 join_lacks byte separator (x ∷ []) other each = All-head (Lacks byte) x [] each
 join_lacks byte separator (x ∷ y ∷ xs) other each =
@@ -37,14 +39,19 @@ onto_first-append : (x : ℕ) (xs ys : List (List ℕ)) → 0 < length xs → on
 onto_first-append x [] ys some = absurd (omega (arith, some))
 onto_first-append x (p ∷ ps) ys some = refl
 
-flat_cut : (p : ℕ → Bool) (x : ℕ) (parts : List (List ℕ)) (t : Bool) → p x ≡ t → 0 < length parts → flat_map (slice_split p) (onto_first x parts) ≡ cond t ([] ∷ flat_map (slice_split p) parts) (onto_first x (flat_map (slice_split p) parts))
+flat_cut : (p : ℕ → Bool) (x : ℕ) (parts : List (List ℕ)) (t : Bool) → p x ≡ t → 0 < length parts
+    → flat_map (slice_split p) (onto_first x parts)
+    ≡ cond t ([] ∷ flat_map (slice_split p) parts) (onto_first x (flat_map (slice_split p) parts))
 flat_cut p x [] t is some = absurd (omega (arith, some))
 flat_cut p x (part ∷ parts) true is some = ap (λ b. cond b ([] ∷ slice_split p part) (onto_first x (slice_split p part)) ++ flat_map (slice_split p) parts) is
 flat_cut p x (part ∷ parts) false is some =
     ap (λ b. cond b ([] ∷ slice_split p part) (onto_first x (slice_split p part)) ++ flat_map (slice_split p) parts) is
     ∙ onto_first-append x (slice_split p part) (flat_map (slice_split p) parts) (some_part p part)
 
-cut_step : (p q : ℕ → Bool) (x : ℕ) (xs : List ℕ) (t u : Bool) → p x ≡ t → q x ≡ u → slice_split (λ b. p b || q b) xs ≡ flat_map (slice_split p) (slice_split q xs) → cond (t || u) ([] ∷ slice_split (λ b. p b || q b) xs) (onto_first x (slice_split (λ b. p b || q b) xs)) ≡ flat_map (slice_split p) (cond u ([] ∷ slice_split q xs) (onto_first x (slice_split q xs)))
+cut_step : (p q : ℕ → Bool) (x : ℕ) (xs : List ℕ) (t u : Bool) → p x ≡ t → q x ≡ u
+    → slice_split (λ b. p b || q b) xs ≡ flat_map (slice_split p) (slice_split q xs)
+    → cond (t || u) ([] ∷ slice_split (λ b. p b || q b) xs) (onto_first x (slice_split (λ b. p b || q b) xs))
+    ≡ flat_map (slice_split p) (cond u ([] ∷ slice_split q xs) (onto_first x (slice_split q xs)))
 cut_step p q x xs true true is_p is_q more = ap (λ t. [] ∷ t) more
 cut_step p q x xs false true is_p is_q more = ap (λ t. [] ∷ t) more
 cut_step p q x xs true false is_p is_q more = ap (λ t. [] ∷ t) more ∙ sym (flat_cut p x (slice_split q xs) true is_p (some_part q xs))

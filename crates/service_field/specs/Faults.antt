@@ -60,17 +60,17 @@ form_fault form at text = parts_fault (part_fault form) at (slice_split (ends_pa
 abbrev pub whole_fault : Form → List ℕ → Option ServiceFault
 whole_fault form text = if length text == 0 then Some Empty else form_fault form 0 text
 
--- the first fault of what stands behind E2U
-abbrev pub fault_behind_e2u : List ℕ → Option ServiceFault
-fault_behind_e2u [] = Some (BadTag 3)
-fault_behind_e2u (b ∷ rest) = if b == plus then form_fault EnumItems 4 rest else Some (Trailing 3)
+-- the first fault of what stands after E2U
+abbrev pub fault_after_e2u : List ℕ → Option ServiceFault
+fault_after_e2u [] = Some (BadTag 3)
+fault_after_e2u (b ∷ rest) = if b == plus then form_fault EnumItems 4 rest else Some (Trailing 3)
 
 -- the first fault of ENUM services
 abbrev pub services_fault : List ℕ → Option ServiceFault
 services_fault text =
     if length text == 0 then Some Empty
     else if not (bytes_eq (folded (take 3 text)) e2u) then Some NoE2u
-    else fault_behind_e2u (drop 3 text)
+    else fault_after_e2u (drop 3 text)
 
 -- the first fault of S-NAPTR services
 abbrev pub snaptr_fault : List ℕ → Option ServiceFault

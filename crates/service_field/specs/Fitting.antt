@@ -1,6 +1,7 @@
 -- Which services serve what is wanted (RFC 6116, section 3.4.3; RFC 3958, section 2.2.2; what a list asks for is this
 -- project's own).
-use Rattle.std.specs.Prelude.{◌≡◌, ℕ, Bool, true, false, ◌&&◌, ◌==◌, nat_lt, nat_le, List, [], ◌∷◌, ◌++◌, length, map, bytes_eq, Contains, Option, Some, None, ⊤}
+use Rattle.std.specs.Prelude.{◌≡◌, ℕ, Bool, true, false, ◌&&◌, ◌==◌, nat_lt, nat_le, List, [], ◌∷◌, ◌++◌, length, map}
+use Rattle.std.specs.Prelude.{bytes_eq, Contains, Option, Some, None, ⊤}
 use Rattle.std.specs.List.{All, list_any, list_all}
 use Rattle.enum_base.specs.Folding.{folded}
 use Rattle.service_field.specs.Tags.{Item, IsItem, IsPair, begins_tag, colon, first_tag, is_tag_byte, other_tags}

@@ -18,7 +18,7 @@ comma = 44
 abbrev pub e2u : List ℕ
 e2u = codes "e2u"
 
--- a text spells ENUM services: E2U in any case, and then each item behind a +
+-- a text spells ENUM services: E2U in any case, and then each item after a +
 pub record SpellsServices (text : List ℕ) (items : List Item) : Type 0 where
   pub head : folded (take 3 text) ≡ e2u
   pub rest : drop 3 text ≡ flat_map (λ item. plus ∷ item_text item) items
@@ -42,7 +42,7 @@ SpellsWanted text items = SpellsList (IsItem Enum) text items
 abbrev pub SpellsSnaptrWanted : List ℕ → List Item → Type 0
 SpellsSnaptrWanted text items = SpellsList IsPair text items
 
--- the items of ENUM services, which begin behind E2U and a +
+-- the items of ENUM services, which begin after E2U and a +
 abbrev pub services_items : List ℕ → List Item
 services_items text = items_of plus (drop 4 text)
 

@@ -11,7 +11,7 @@ use crate::tags::{pair_fault, tag_fault};
 /// What a text is to be.
 #[derive(Clone, Copy)]
 pub(crate) enum Form {
-    /// What stands behind `E2U+`: tags, with `:` or `+` between them.
+    /// What stands after `E2U+`: tags, with `:` or `+` between them.
     EnumItems,
     /// A wanted list of ENUM: tags, with `:` or `,` between them.
     EnumList,

@@ -1,6 +1,8 @@
 //! That texts have one reading and case is ignored. Each function does nothing: its contract is a law, proved like any
 //! other contract.
-ghost use Rattle.service_field.specs.Laws.{FaultsIgnoreCase, OneListOfServices, OneService, OneSnaptrList, OneWantedList, ServicesIgnoreCase, SnaptrFaultsIgnoreCase, SnaptrServicesIgnoreCase, SnaptrWantedIgnoresCase, WantedIgnoresCase};
+ghost use Rattle.service_field.specs.Laws.{FaultsIgnoreCase, OneListOfServices, OneService, OneSnaptrList};
+ghost use Rattle.service_field.specs.Laws.{OneWantedList, ServicesIgnoreCase, SnaptrFaultsIgnoreCase};
+ghost use Rattle.service_field.specs.Laws.{SnaptrServicesIgnoreCase, SnaptrWantedIgnoresCase, WantedIgnoresCase};
 
 /// A text spells one list of items at most.
 pub fn one_spelling()

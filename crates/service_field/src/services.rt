@@ -19,7 +19,7 @@ use std::marker::Model;
 /// Well-formed services of ENUM: one item or more, each a type with subtypes (RFC 6116, section 3.4.3).
 #[derive(Debug, Drop)]
 pub struct EnumServices<'a> {
-    // What stands behind `E2U+`.
+    // What stands after `E2U+`.
     items: &'a [u8],
 }
 
@@ -37,7 +37,7 @@ impl<'a> Model for EnumServices<'a> {
     ghost invariant = { λ s. AreItems (IsItem Enum) (items_of plus s.items.now) };
 }
 
-/// Reads the services of an ENUM rule: `E2U` in any case, and then items, each behind a `+`, of tags with
+/// Reads the services of an ENUM rule: `E2U` in any case, and then items, each after a `+`, of tags with
 /// colons between them. A tag has 1 to 32 letters, digits or `-` (RFC 6116, section 3.4.3).
 pub fn read_enum(text: &[u8]) -> Result<EnumServices<'_>, ServiceFault>
     // The first fault from left to right.
@@ -47,15 +47,15 @@ pub fn read_enum(text: &[u8]) -> Result<EnumServices<'_>, ServiceFault>
     // What is spelled so is read.
     ensures only { (items : List Item) → SpellsServices text.now items → result ≡ Ok items }
 {
-    let items = behind_e2u(text)?;
+    let items = after_e2u(text)?;
     match Form::EnumItems.fault(4, items) {
         Some(fault) => Err(fault),
         None => Ok(EnumServices { items }),
     }
 }
 
-// What stands behind `E2U+`, or the first fault of these four bytes.
-fn behind_e2u(text: &[u8]) -> Result<&[u8], ServiceFault>
+// What stands after `E2U+`, or the first fault of these four bytes.
+fn after_e2u(text: &[u8]) -> Result<&[u8], ServiceFault>
     ensures { MatchResult result
         (λ items. (items.now ≡ drop 4 text.now) × (services_fault text.now ≡ form_fault EnumItems 4 items.now))
         (λ fault. services_fault text.now ≡ Some fault) }

@@ -52,12 +52,12 @@ pub(crate) fn pair_fault(at: usize, text: &[u8]) -> Option<ServiceFault>
     }
 }
 
-// What stands before the first colon, and behind it where there is one.
+// What stands before the first colon, and after it where there is one.
 fn halves(text: &[u8]) -> (&[u8], Option<&[u8]>)
     ensures cut { MatchOption result.1 (cut_once text.now ≡ result.0.now ∷ [])
-        (λ behind. cut_once text.now ≡ result.0.now ∷ behind.now ∷ []) }
+        (λ after. cut_once text.now ≡ result.0.now ∷ after.now ∷ []) }
     ensures within { MatchOption result.1 (length result.0.now ≤ length text.now)
-        (λ behind. length result.0.now + 1 + length behind.now ≡ length text.now) }
+        (λ after. length result.0.now + 1 + length after.now ≡ length text.now) }
 {
     match colon_place(text) {
         Some(n) => (&text[..n], Some(&text[n + 1..])),

@@ -1,5 +1,6 @@
 -- The groups that a parse took (IEEE 1003.1, regexec; of a repetition the last iteration alone, this project's own).
-use Rattle.std.specs.Prelude.{ℕ, zero, suc, ◌==◌, ◌-◌, ◌&&◌, nat_le, if◌then◌else◌, List, [], ◌∷◌, ◌++◌, map, Option, Some, reverse, find, option_map, slice_set}
+use Rattle.std.specs.Prelude.{ℕ, zero, suc, ◌==◌, ◌-◌, ◌&&◌, nat_le, if◌then◌else◌, List, [], ◌∷◌, ◌++◌, map, Option}
+use Rattle.std.specs.Prelude.{Some, reverse, find, option_map, slice_set}
 use Rattle.posix_ere.specs.Tree.{Tree, atom, alt, branch, group, rep, Trees, none, more}
 use Rattle.submatch.specs.declared.spans.Span.{Span}
 use Rattle.submatch.specs.Parses.{Parses, no_more, next}

@@ -6,7 +6,8 @@ ghost use Rattle.posix_ere.specs.declared.node.Node.TheVariants as n;
 ghost use Rattle.submatch.specs.Parses.{IsParse, AreIterations};
 ghost use Rattle.submatch.specs.Rows.{IsColumn, AreForward, IsClosedFrom};
 ghost use Rattle.submatch.specs.Ends.{Reaches, RowReaches, IsLeaf};
-ghost use Rattle.submatch.specs.Table.{AreParts, AreAlive, IsMade, AddsJoined, PassesOn, square, column_at, part_at, last_count as last_of, AreInsideOf, KeepsToWeight, KeepsToShare};
+ghost use Rattle.submatch.specs.Table.{AreParts, AreAlive, IsMade, AddsJoined, PassesOn, square, column_at, part_at};
+ghost use Rattle.submatch.specs.Table.{last_count as last_of, AreInsideOf, KeepsToWeight, KeepsToShare};
 
 use super::column::Column;
 use super::joined::Joint;

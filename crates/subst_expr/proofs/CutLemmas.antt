@@ -1,4 +1,5 @@
-use Rattle.std.proofs.Common.{◌≡◌, ◌≢◌, inl, inr, ℕ, ◌+◌, ◌==◌, eqb-true, option_map, Bool, true, false, cond, List, [], ◌∷◌, ◌++◌, length, take, drop, Option, Some, None, refl, sym, ap, ◌∙◌, subst, arith}
+use Rattle.std.proofs.Common.{◌≡◌, ◌≢◌, inl, inr, ℕ, ◌+◌, ◌==◌, eqb-true, option_map, Bool, true, false, cond, List, []}
+use Rattle.std.proofs.Common.{◌∷◌, ◌++◌, length, take, drop, Option, Some, None, refl, sym, ap, ◌∙◌, subst, arith}
 use Rattle.std.proofs.lemmas.Bool.{eqb-false}
 use Rattle.std.proofs.Math.Seq.{take-append_seam, drop-append-add}
 use Rattle.subst_expr.specs.Pieces.{Piece, Plain, Pair, backslash, spelled, IsPart}
@@ -41,7 +42,10 @@ cut_escaped delim at [] place is =
     subst P (sym is) ([], backslash ∷ [], tt, inr refl, refl)
 cut_escaped delim at (b ∷ rest) place cut = cut_pair delim at b rest place cut
 
-cut_at : (delim at b : ℕ) (rest : List ℕ) (x y : Bool) → (b == delim) ≡ x → (b == backslash) ≡ y → Cut delim (at + 1) rest (delimiter_from delim false (at + 1) rest) → CutEscaped delim (at + 1) rest (delimiter_from delim true (at + 1) rest) → Cut delim at (b ∷ rest) (cond x (Some at) (delimiter_from delim y (at + 1) rest))
+cut_at : (delim at b : ℕ) (rest : List ℕ) (x y : Bool) → (b == delim) ≡ x → (b == backslash) ≡ y
+    → Cut delim (at + 1) rest (delimiter_from delim false (at + 1) rest)
+    → CutEscaped delim (at + 1) rest (delimiter_from delim true (at + 1) rest)
+    → Cut delim at (b ∷ rest) (cond x (Some at) (delimiter_from delim y (at + 1) rest))
 cut_at delim at b rest true y is pair cut escaped =
     ([], rest, tt, ap (λ c. c ∷ rest) (eqb-true b delim is), omega arith)
 cut_at delim at b rest false true is pair cut escaped =
@@ -50,7 +54,9 @@ cut_at delim at b rest false true is pair cut escaped =
 cut_at delim at b rest false false is pair cut escaped =
     cut_plain delim at b rest (delimiter_from delim false (at + 1) rest) (eqb-false b delim is) (eqb-false b backslash pair) cut
 
-cuts : (delim at : ℕ) (bytes : List ℕ) → Cut delim at bytes (delimiter_from delim false at bytes) × CutEscaped delim at bytes (delimiter_from delim true at bytes)
+cuts : (delim at : ℕ) (bytes : List ℕ)
+    → Cut delim at bytes (delimiter_from delim false at bytes)
+    × CutEscaped delim at bytes (delimiter_from delim true at bytes)
 cuts delim at [] = (([], [], tt, inl refl, refl), refl)
 cuts delim at (b ∷ rest) =
     let more = cuts delim (at + 1) rest in
@@ -62,7 +68,8 @@ AreHalves delim bytes None = Ends delim bytes
 AreHalves delim bytes (Some parts) =
     (pieces : List Piece) × IsPart delim pieces × (parts.0 ≡ spelled pieces) × (bytes ≡ spelled pieces ++ delim ∷ parts.1)
 
-halves_at : (delim : ℕ) (bytes : List ℕ) (place : Option ℕ) → Cut delim 0 bytes place → AreHalves delim bytes (option_map (λ at. (take at bytes, drop (at + 1) bytes)) place)
+halves_at : (delim : ℕ) (bytes : List ℕ) (place : Option ℕ) → Cut delim 0 bytes place
+    → AreHalves delim bytes (option_map (λ at. (take at bytes, drop (at + 1) bytes)) place)
 halves_at delim bytes None ends = ends
 halves_at delim bytes (Some place) (pieces, rest, part, is, at_place) =
     let here : place ≡ length (spelled pieces) = omega (arith, at_place) in

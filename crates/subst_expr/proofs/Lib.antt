@@ -1,8 +1,8 @@
 mod CutLemmas
-mod OneSplit
+mod OneSplitLemmas
 mod PieceLemmas
 mod SplitLemmas
-mod Expanding
-mod OneAnswer
-mod EachAnswer
-mod SomeOutput
+mod ExpandingLemmas
+mod OneAnswerLemmas
+mod EachAnswerLemmas
+mod SomeOutputLemmas

@@ -1,11 +1,13 @@
-use Rattle.std.proofs.Common.{◌≡◌, ℕ, ◌+◌, ◌-◌, ◌==◌, ◌&&◌, nat_lt, eqb-true, ne_eqb, Bool, true, false, cond, List, [], ◌∷◌, ◌++◌, Option, Some, refl, ap, ◌∙◌, arith}
+use Rattle.std.proofs.Common.{◌≡◌, ℕ, ◌+◌, ◌-◌, ◌==◌, ◌&&◌, nat_lt, eqb-true, ne_eqb, Bool, true, false, cond, List, []}
+use Rattle.std.proofs.Common.{◌∷◌, ◌++◌, Option, Some, refl, ap, ◌∙◌, arith}
 use Rattle.subst_expr.specs.Pieces.{Piece, Plain, Pair, backslash, spelled, undone, IsPart, is_escape, bad_escape}
 use Rattle.submatch.specs.declared.spans.Span.{Span}
 use Rattle.subst_expr.specs.Replacement.{expansion, first_missing, is_group_digit, pair_given}
 use Rattle.subst_expr.specs.Scans.{bad_escape_from, expansion_from, missing_from, undone_from}
 
 -- the pass over the bytes of a part finds its first bad escape
-pub bad_escape_spelled : (delim at : ℕ) (pieces : List Piece) → IsPart delim pieces → bad_escape_from delim false at (spelled pieces) ≡ bad_escape delim at pieces
+pub bad_escape_spelled : (delim at : ℕ) (pieces : List Piece) → IsPart delim pieces
+    → bad_escape_from delim false at (spelled pieces) ≡ bad_escape delim at pieces
 bad_escape_spelled delim at [] part = refl
 bad_escape_spelled delim at (Plain b ∷ pieces) part =
     ap (λ e. bad_escape_from delim e (at + 1) (spelled pieces)) (ne_eqb b backslash part.1)
@@ -17,7 +19,8 @@ bad_escape_spelled delim at (Pair b ∷ pieces) part =
     ∙ ap (λ k. cond (is_escape delim b) (bad_escape_from delim false (at + 2) (spelled pieces)) (Some k)) back
     ∙ ap (λ o. cond (is_escape delim b) o (Some at)) (bad_escape_spelled delim (at + 2) pieces part)
 
-undone_pair : (delim b : ℕ) (rest more : List ℕ) (x : Bool) → (b == delim) ≡ x → rest ≡ more → cond x (b ∷ rest) (backslash ∷ b ∷ rest) ≡ cond x (delim ∷ []) (backslash ∷ b ∷ []) ++ more
+undone_pair : (delim b : ℕ) (rest more : List ℕ) (x : Bool) → (b == delim) ≡ x → rest ≡ more
+    → cond x (b ∷ rest) (backslash ∷ b ∷ rest) ≡ cond x (delim ∷ []) (backslash ∷ b ∷ []) ++ more
 undone_pair delim b rest more true is same = ap (λ c. c ∷ rest) (eqb-true b delim is) ∙ ap (λ t. delim ∷ t) same
 undone_pair delim b rest more false is same = ap (λ t. backslash ∷ b ∷ t) same
 
@@ -31,7 +34,8 @@ undone_spelled delim (Pair b ∷ pieces) part =
     undone_pair delim b (undone_from delim false (spelled pieces)) (undone delim pieces) (b == delim) refl (undone_spelled delim pieces part)
 
 -- the pass over the bytes of a part finds its first back reference past the last group
-pub missing_spelled : (delim groups at : ℕ) (pieces : List Piece) → IsPart delim pieces → missing_from groups false at (spelled pieces) ≡ first_missing groups at pieces
+pub missing_spelled : (delim groups at : ℕ) (pieces : List Piece) → IsPart delim pieces
+    → missing_from groups false at (spelled pieces) ≡ first_missing groups at pieces
 missing_spelled delim groups at [] part = refl
 missing_spelled delim groups at (Plain b ∷ pieces) part =
     ap (λ e. missing_from groups e (at + 1) (spelled pieces)) (ne_eqb b backslash part.1)
@@ -45,7 +49,8 @@ missing_spelled delim groups at (Pair b ∷ pieces) part =
     ∙ ap (λ o. cond past (Some at) o) (missing_spelled delim groups (at + 2) pieces part)
 
 -- and expands to what its pieces give
-pub expansion_spelled : (delim : ℕ) (aus : List ℕ) (groups : List (Option Span)) (pieces : List Piece) → IsPart delim pieces → expansion_from aus groups false (spelled pieces) ≡ expansion aus groups pieces
+pub expansion_spelled : (delim : ℕ) (aus : List ℕ) (groups : List (Option Span)) (pieces : List Piece)
+    → IsPart delim pieces → expansion_from aus groups false (spelled pieces) ≡ expansion aus groups pieces
 expansion_spelled delim aus groups [] part = refl
 expansion_spelled delim aus groups (Plain b ∷ pieces) part =
     ap (λ e. cond e (expansion_from aus groups true (spelled pieces)) (b ∷ expansion_from aus groups false (spelled pieces))) (ne_eqb b backslash part.1)

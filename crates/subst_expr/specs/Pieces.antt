@@ -3,14 +3,13 @@ use Rattle.std.specs.Prelude.{◌≢◌, ℕ, ◌+◌, ◌==◌, ◌&&◌, ◌||
 use Rattle.std.specs.Char.{is_ascii_alphanumeric, is_ascii_graphic}
 use Rattle.std.specs.List.{list_any}
 use Rattle.std.specs.Prelude.{codes}
+pub use Rattle.enum_base.specs.Escapes.{backslash}
+pub use Rattle.posix_ere.specs.Ascii.{is_printable}
 
 -- a byte that stands for itself, or a backslash and the byte after it
 pub data Piece : Type 0 where
   Plain : ℕ → Piece
   Pair : ℕ → Piece
-
-abbrev pub backslash : ℕ
-backslash = 92
 
 -- the bytes that pieces are written with
 abbrev pub spelled : List Piece → List ℕ
@@ -30,10 +29,6 @@ undone delim [] = []
 undone delim (Plain b ∷ pieces) = b ∷ undone delim pieces
 undone delim (Pair b ∷ pieces) = (if b == delim then delim ∷ [] else backslash ∷ b ∷ []) ++ undone delim pieces
 
--- a byte that a text may have
-abbrev pub is_printable : ℕ → Bool
-is_printable b = nat_le 32 b && nat_le b 126
-
 -- the bytes with a meaning of their own in an expression
 abbrev pub is_special : ℕ → Bool
 is_special b = list_any (λ special. special == b) (codes "\\^.[]$()|*+?{}")
@@ -46,7 +41,7 @@ is_delimiter b = is_ascii_graphic b && not (is_ascii_alphanumeric b) && not (is_
 abbrev pub is_flag : ℕ → Bool
 is_flag b = b == 105 || b == 73
 
--- what may stand behind a backslash in a replacement: a backslash, the delimiter, or a digit from 1 to 9
+-- what may stand after a backslash in a replacement: a backslash, the delimiter, or a digit from 1 to 9
 abbrev pub is_escape : ℕ → ℕ → Bool
 is_escape delim b = b == backslash || b == delim || (nat_le 49 b && nat_le b 57)
 

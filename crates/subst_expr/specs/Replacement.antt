@@ -9,7 +9,7 @@ pub record HasPieces (s : Subst) (pieces : List Piece) : Type 0 where
   pub part : IsPart s.delim pieces
   pub spelt : s.repl ≡ spelled pieces
 
--- the digits from 1 to 9, which behind a backslash name a group
+-- the digits from 1 to 9, which after a backslash name a group
 abbrev pub is_group_digit : ℕ → Bool
 is_group_digit b = nat_le 49 b && nat_le b 57
 

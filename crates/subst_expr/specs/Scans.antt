@@ -1,5 +1,6 @@
 -- What one pass over the bytes finds; a byte is escaped where the byte before it begins a pair (this project's own).
-use Rattle.std.specs.Prelude.{ℕ, ◌+◌, ◌-◌, ◌==◌, ◌&&◌, nat_lt, Bool, true, false, cond, List, [], ◌∷◌, ◌++◌, length, take, drop, option_map, Option, Some, None, Result, Ok}
+use Rattle.std.specs.Prelude.{ℕ, ◌+◌, ◌-◌, ◌==◌, ◌&&◌, nat_lt, Bool, true, false, cond, List, [], ◌∷◌, ◌++◌, length}
+use Rattle.std.specs.Prelude.{take, drop, option_map, Option, Some, None, Result, Ok}
 use Rattle.subst_expr.specs.Pieces.{backslash, is_escape}
 use Rattle.subst_expr.specs.Replacement.{is_group_digit, pair_given}
 use Rattle.subst_expr.specs.Split.{fault_or, bad_flag}

@@ -1,6 +1,7 @@
 -- The split of a substitution into expression, replacement and flags (RFC 3402, section 3.2), and the first fault of a text
 -- that has none (this project's own).
-use Rattle.std.specs.Prelude.{◌≡◌, ◌⊎◌, ℕ, ◌+◌, not, List, [], ◌∷◌, ◌++◌, length, position, option_map, nat_lt, Option, Some, None, Result, Ok, Err, MatchOption, MatchBool}
+use Rattle.std.specs.Prelude.{◌≡◌, ◌⊎◌, ℕ, ◌+◌, not, List, [], ◌∷◌, ◌++◌, length, position, option_map, nat_lt, Option}
+use Rattle.std.specs.Prelude.{Some, None, Result, Ok, Err, MatchOption, MatchBool}
 use Rattle.subst_expr.specs.Pieces.{Piece, spelled, undone, IsPart, backslash, bad_escape, is_printable, is_delimiter, is_flag}
 use Rattle.subst_expr.specs.declared.subst.Subst.{Subst}
 use Rattle.subst_expr.specs.declared.subst.SubstFault.{SubstFault}
@@ -34,7 +35,7 @@ fault_or (Some at) fault answer = Err (fault at)
 abbrev pub bad_flag : ℕ → List ℕ → Option ℕ
 bad_flag at flags = option_map (λ k. at + k) (position (λ b. not (is_flag b)) flags)
 
--- the place of the replacement behind that expression, and that of the flags behind it
+-- the place of the replacement after that expression, and that of the flags after it
 abbrev pub repl_place : List Piece → ℕ
 repl_place ere = 2 + length (spelled ere)
 

@@ -24,7 +24,7 @@ pub(crate) fn first_missing(groups: u32, start: usize, repl: &[u8]) -> Option<us
     None
 }
 
-// Whether the byte behind a backslash names a group.
+// Whether the byte after a backslash names a group.
 fn is_group_digit(b: u8) -> bool
     ensures { result ≡ is_group_digit b }
 {
@@ -72,7 +72,7 @@ fn push_escaped<A: Allocator>(
 }
 
 // The bytes that a span takes.
-#[tactic(auto, using(crate::proofs::Expanding::take_within, crate::proofs::Expanding::drop_within))]
+#[tactic(auto, using(crate::proofs::ExpandingLemmas::take_within, crate::proofs::ExpandingLemmas::drop_within))]
 fn taken(aus: &[u8], span: Option<Span>) -> &[u8]
     ensures { result.now ≡ taken aus.now span }
 {

@@ -79,7 +79,7 @@ pub(crate) fn begins_pair(escaped: bool, b: u8) -> bool
     !escaped && b == b'\\'
 }
 
-// Whether a replacement may have the byte behind a backslash.
+// Whether a replacement may have the byte after a backslash.
 fn is_escape(delim: u8, b: u8) -> bool
     ensures { result ≡ is_escape delim b }
 {

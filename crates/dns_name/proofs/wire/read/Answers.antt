@@ -10,7 +10,7 @@ fields-init c = record {
   labels = [];
   far = reaches-start c.args.message.now c.args.at;
   bytes = c.new-wire.ensures;
-  behind = refl;
+  after = refl;
   within = c.requires.place;
   inside = c.requires.place;
 }

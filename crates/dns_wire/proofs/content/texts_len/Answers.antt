@@ -1,5 +1,5 @@
 use Rattle.std.proofs.Common.{arith, ap, length}
-use Rattle.naptr_data.specs.Rdata.{string_wire}
+use Rattle.rdata_field.specs.Strings.{string_wire}
 use Rattle.dns_wire.proofs.EncodeLemmas.{size_more}
 use Rattle.dns_wire.proofs.content.texts_len.Goals as goal
 

@@ -1,6 +1,6 @@
 use Rattle.std.proofs.Common.{◌≡◌, ◌-◌, ◌^◌, length, min, take}
 use Rattle.std.specs.List.{flat_map}
-use Rattle.naptr_data.specs.Rdata.{string_wire}
+use Rattle.rdata_field.specs.Strings.{string_wire}
 use Rattle.dns_wire.proofs.content.texts_len.Given as goal
 
 abbrev pub invariant-loop-text : goal.invariant-loop-text

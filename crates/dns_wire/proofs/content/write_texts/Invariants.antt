@@ -1,7 +1,7 @@
 use Rattle.std.proofs.Common.{◌≡◌, ◌++◌, take}
 use Rattle.std.specs.List.{AllByRecursion, flat_map}
 use Rattle.dns_wire.specs.Ranges.{IsText}
-use Rattle.naptr_data.specs.Rdata.{string_wire}
+use Rattle.rdata_field.specs.Strings.{string_wire}
 use Rattle.dns_wire.proofs.content.write_texts.Given as goal
 
 abbrev pub invariant-loop-text : goal.invariant-loop-text

@@ -1,6 +1,7 @@
 use Rattle.std.proofs.Common.{refl}
-use Rattle.naptr_data.specs.Fields.{NameIn, RuleIn}
-use Rattle.dns_wire.specs.Contents.{AddressIn, SoaIn, LastIn, TextsIn, ContentIn}
+use Rattle.rdata_field.specs.Fields.{NameIn, AddressIn}
+use Rattle.naptr_rule.specs.Fields.{RuleIn}
+use Rattle.dns_wire.specs.Contents.{SoaIn, LastIn, TextsIn, ContentIn}
 use Rattle.dns_wire.specs.DecodeFaults.{of_rdata}
 use Rattle.dns_wire.specs.declared.content.Content.TheVariants as content
 use Rattle.dns_wire.specs.declared.form.Form.TheVariants as form

@@ -1,6 +1,6 @@
 use Rattle.std.proofs.Common.{◌+◌, length, arith}
 use Rattle.std.proofs.lemmas.Grind.{common_steps}
-use Rattle.enum_base.proofs.Loaded.{taken_after}
+use Rattle.enum_base.proofs.LoadedLemmas.{taken_after}
 use Rattle.enum_base.proofs.input.load.Goals as goal
 
 pub returns-in_err-push_slice-clause-taken : goal.returns-in_err-push_slice-clause-taken

@@ -1,4 +1,4 @@
-use Rattle.enum_base.proofs.Written.{Takes-first, Takes-second}
+use Rattle.enum_base.proofs.WrittenLemmas.{Takes-first, Takes-second}
 use Rattle.enum_base.proofs.write.write_three.Goals as goal
 
 pub returns-in_err-write_two-clause-takes : goal.returns-in_err-write_two-clause-takes

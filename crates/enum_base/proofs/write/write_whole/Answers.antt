@@ -1,6 +1,6 @@
 use Rattle.std.proofs.Common.{◌∙◌, arith}
 use Rattle.std.proofs.lemmas.Grind.{common_steps}
-use Rattle.enum_base.proofs.Written.{next_piece}
+use Rattle.enum_base.proofs.WrittenLemmas.{next_piece}
 use Rattle.enum_base.proofs.write.write_whole.Goals as goal
 
 pub loop-written-preserved : goal.loop-written-preserved

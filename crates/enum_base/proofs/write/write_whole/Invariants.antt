@@ -1,5 +1,5 @@
 use Rattle.std.proofs.Common.{◌-◌, length}
-use Rattle.enum_base.proofs.Written.{IsWritten}
+use Rattle.enum_base.proofs.WrittenLemmas.{IsWritten}
 use Rattle.enum_base.proofs.write.write_whole.Given as goal
 
 abbrev pub invariant-loop-written : goal.invariant-loop-written

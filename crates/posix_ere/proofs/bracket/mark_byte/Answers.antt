@@ -1,5 +1,5 @@
 use Rattle.std.proofs.Common.{rules}
-use Rattle.posix_ere.proofs.Marks.{marked_single, marked_beyond}
+use Rattle.posix_ere.proofs.MarksLemmas.{marked_single, marked_beyond}
 use Rattle.posix_ere.proofs.bracket.mark_byte.Goals as goal
 
 pub returns-then-byte-lt128 : goal.returns-then-byte-lt128

@@ -1,6 +1,6 @@
 use Rattle.std.proofs.Common.{◌≡◌, arith}
 use Rattle.posix_ere.specs.Bracket.Item.{members}
-use Rattle.posix_ere.proofs.Marks.{marking_done}
+use Rattle.posix_ere.proofs.MarksLemmas.{marking_done}
 use Rattle.posix_ere.proofs.bracket.mark_class.Goals as goal
 
 pub returns : goal.returns

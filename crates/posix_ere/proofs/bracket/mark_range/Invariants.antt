@@ -1,5 +1,5 @@
 use Rattle.posix_ere.specs.Bracket.Item.{range}
-use Rattle.posix_ere.proofs.Marks.{Marking}
+use Rattle.posix_ere.proofs.MarksLemmas.{Marking}
 use Rattle.posix_ere.proofs.bracket.mark_range.Given as goal
 
 abbrev pub invariant-loop-byte : goal.invariant-loop-byte

@@ -1,4 +1,4 @@
-use Rattle.posix_ere.proofs.OneReason.{one_reason}
+use Rattle.posix_ere.proofs.OneReasonLemmas.{one_reason}
 use Rattle.posix_ere.proofs.ere.has_one_reason.Goals as goal
 
 pub returns : goal.returns

@@ -1,4 +1,4 @@
-use Rattle.posix_ere.proofs.Reading.{prefix_closes}
+use Rattle.posix_ere.proofs.ReadingLemmas.{prefix_closes}
 use Rattle.posix_ere.proofs.ere.prefixes_close.Goals as goal
 
 pub returns : goal.returns

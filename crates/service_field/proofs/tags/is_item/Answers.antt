@@ -10,5 +10,7 @@ pub returns : goal.returns
 returns c =
     item_test c.args.alphabet c.args.text.now c.all.result
     (all_from_yields_List (is_tag c.args.alphabet) _ _ c.all.result c.all.ensures.ran
-    (YieldsList-from_slice_split _ (λ b. b == colon) c.args.text.now c.split.ensures.rest c.split.ensures.done c.split.ensures.closure (λ x b q k. search (rules, tests)))
+    (YieldsList-from_slice_split _
+    (λ b. b == colon) c.args.text.now c.split.ensures.rest c.split.ensures.done c.split.ensures.closure
+    (λ x b q k. search (rules, tests)))
     (λ x b q k. search (rules, tests)))

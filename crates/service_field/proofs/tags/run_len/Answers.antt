@@ -11,5 +11,6 @@ pub returns-clause-value : goal.returns-clause-value
 returns-clause-value c =
     c.unwrap_or.ensures
     ∙ unwrapped c.position.result (length c.args.text.now) (run_of c.args.alphabet c.args.text.now)
-    (position_from_yields_List (λ b. not (is_tag_byte c.args.alphabet b)) _ _ c.position.result c.position.ensures.ran (YieldsList-from_slice c.args.text.now (cc)) (λ x b q k. search (rules, tests)))
+    (position_from_yields_List (λ b. not (is_tag_byte c.args.alphabet b)) _ _ c.position.result c.position.ensures.ran
+    (YieldsList-from_slice c.args.text.now (cc)) (λ x b q k. search (rules, tests)))
     (prefix_len-le-length (λ b. not (not (is_tag_byte c.args.alphabet b))) c.args.text.now)

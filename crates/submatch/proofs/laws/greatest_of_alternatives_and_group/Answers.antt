@@ -1,5 +1,5 @@
 -- The laws are lemmas: this names them.
-use Rattle.submatch.proofs.Greedy.{alternatives_take_earliest, group_has_greatest_inside, alone_is_greatest}
+use Rattle.submatch.proofs.GreedyLemmas.{alternatives_take_earliest, group_has_greatest_inside, alone_is_greatest}
 use Rattle.submatch.proofs.laws.greatest_of_alternatives_and_group.Goals as goal
 
 pub returns-clause-alternatives : goal.returns-clause-alternatives

@@ -1,5 +1,5 @@
 -- The laws are lemmas: this names them.
-use Rattle.submatch.proofs.Greedy.{repetition_has_greatest_iterations, iterations_stop_last, iterations_are_greedy}
+use Rattle.submatch.proofs.GreedyLemmas.{repetition_has_greatest_iterations, iterations_stop_last, iterations_are_greedy}
 use Rattle.submatch.proofs.laws.greatest_of_repetition.Goals as goal
 
 pub returns-clause-iterations : goal.returns-clause-iterations

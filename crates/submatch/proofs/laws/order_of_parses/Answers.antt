@@ -1,6 +1,6 @@
 -- The laws are lemmas: this names them.
-use Rattle.submatch.proofs.Order.{greater_transitive}
-use Rattle.submatch.proofs.BestMatch.{one_is_greater, has_greatest}
+use Rattle.submatch.proofs.OrderLemmas.{greater_transitive}
+use Rattle.submatch.proofs.BestMatchLemmas.{one_is_greater, has_greatest}
 use Rattle.submatch.proofs.laws.order_of_parses.Goals as goal
 
 pub returns-clause-one : goal.returns-clause-one

@@ -1,4 +1,4 @@
-use Rattle.submatch.proofs.Joining.{bits_shifted}
+use Rattle.submatch.proofs.JoiningLemmas.{bits_shifted}
 use Rattle.submatch.proofs.row.bits_from.Goals as goal
 
 pub returns : goal.returns

@@ -1,4 +1,4 @@
-use Rattle.subst_expr.proofs.OneAnswer.{one_fault}
+use Rattle.subst_expr.proofs.OneAnswerLemmas.{one_fault}
 use Rattle.subst_expr.proofs.laws.one_fault.Goals as goal
 
 pub returns : goal.returns

@@ -1,4 +1,4 @@
-use Rattle.subst_expr.proofs.OneAnswer.{one_output, no_output}
+use Rattle.subst_expr.proofs.OneAnswerLemmas.{one_output, no_output}
 use Rattle.subst_expr.proofs.laws.one_output.Goals as goal
 
 pub returns-clause-output : goal.returns-clause-output

@@ -1,4 +1,4 @@
-use Rattle.subst_expr.proofs.OneAnswer.{one_reading, no_fault}
+use Rattle.subst_expr.proofs.OneAnswerLemmas.{one_reading, no_fault}
 use Rattle.subst_expr.proofs.laws.one_reading.Goals as goal
 
 pub returns-clause-reading : goal.returns-clause-reading

@@ -1,4 +1,4 @@
-use Rattle.subst_expr.proofs.OneSplit.{same_split}
+use Rattle.subst_expr.proofs.OneSplitLemmas.{same_split}
 use Rattle.subst_expr.proofs.laws.one_split.Goals as goal
 
 pub returns : goal.returns

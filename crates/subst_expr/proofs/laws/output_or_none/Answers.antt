@@ -1,4 +1,4 @@
-use Rattle.subst_expr.proofs.SomeOutput.{formed_or_fault, output_or_unmatched, output_or_none}
+use Rattle.subst_expr.proofs.SomeOutputLemmas.{formed_or_fault, output_or_unmatched, output_or_none}
 use Rattle.subst_expr.proofs.laws.output_or_none.Goals as goal
 
 pub returns-clause-formed : goal.returns-clause-formed

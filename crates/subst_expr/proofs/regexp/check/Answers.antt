@@ -1,4 +1,4 @@
-use Rattle.subst_expr.proofs.EachAnswer.{check_refuses}
+use Rattle.subst_expr.proofs.EachAnswerLemmas.{check_refuses}
 use Rattle.subst_expr.proofs.regexp.check.Goals as goal
 
 pub returns-clause-refuses : goal.returns-clause-refuses

@@ -1,4 +1,4 @@
-use Rattle.enum_app.proofs.NumberFaults.{each_fault, each_number}
+use Rattle.enum_app.proofs.NumberFaultsLemmas.{each_fault, each_number}
 use Rattle.enum_app.proofs.number.Number.parse.Goals as goal
 
 pub returns-clause-each_number : goal.returns-clause-each_number

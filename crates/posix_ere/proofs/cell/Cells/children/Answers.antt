@@ -1,4 +1,4 @@
-use Rattle.posix_ere.proofs.Told.{children_told}
+use Rattle.posix_ere.proofs.ToldLemmas.{children_told}
 use Rattle.posix_ere.proofs.cell.Cells.children.Goals as goal
 
 pub returns : goal.returns

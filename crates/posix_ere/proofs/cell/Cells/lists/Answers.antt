@@ -1,7 +1,7 @@
 use Rattle.std.proofs.Common.{◌<◌, subst, sym, ◌∙◌, ap, arith, ltb-true}
 use Rattle.std.specs.Prelude.{Contains}
 use Rattle.posix_ere.specs.Nodes.{listed_of, IsSet}
-use Rattle.posix_ere.proofs.Told.{made_at, set_listed, listed_by-has, has-listed_by}
+use Rattle.posix_ere.proofs.ToldLemmas.{made_at, set_listed, listed_by-has, has-listed_by}
 use Rattle.posix_ere.proofs.cell.Cells.lists.Goals as goal
 
 pub returns-then-byte-lt128 : goal.returns-then-byte-lt128

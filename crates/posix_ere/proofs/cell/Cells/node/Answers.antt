@@ -1,4 +1,4 @@
-use Rattle.posix_ere.proofs.Told.{node_told}
+use Rattle.posix_ere.proofs.ToldLemmas.{node_told}
 use Rattle.posix_ere.proofs.cell.Cells.node.Goals as goal
 
 pub returns : goal.returns

@@ -1,5 +1,5 @@
 use Rattle.std.proofs.Common.{arith}
-use Rattle.posix_ere.proofs.Told.{pushed}
+use Rattle.posix_ere.proofs.ToldLemmas.{pushed}
 use Rattle.posix_ere.proofs.cell.Cells.push.Goals as goal
 
 pub invariant_of-self-2 : goal.invariant_of-self-2

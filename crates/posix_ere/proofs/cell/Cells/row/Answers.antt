@@ -1,6 +1,6 @@
 use Rattle.std.proofs.Common.{arith, subst, sym, ℕ, ◌+◌}
 use Rattle.posix_ere.specs.Cells.{AreCells, Walked}
-use Rattle.posix_ere.proofs.Told.{row_some, row_step}
+use Rattle.posix_ere.proofs.ToldLemmas.{row_some, row_step}
 use Rattle.posix_ere.proofs.cell.Cells.row.Goals as goal
 
 pub overflow_sub-start : goal.overflow_sub-start

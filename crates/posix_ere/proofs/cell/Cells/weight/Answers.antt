@@ -1,4 +1,4 @@
-use Rattle.posix_ere.proofs.Told.{weight_told}
+use Rattle.posix_ere.proofs.ToldLemmas.{weight_told}
 use Rattle.posix_ere.proofs.cell.Cells.weight.Goals as goal
 
 pub returns : goal.returns

@@ -4,22 +4,28 @@ use Rattle.posix_ere.specs.Nodes.{whole}
 use Rattle.posix_ere.specs.Grammar.{Reads}
 use Rattle.posix_ere.specs.Answers.{IsFaultOf, IsFaultAt}
 use Rattle.posix_ere.specs.Machine.{state_of, finish, top_of, Ends}
-use Rattle.posix_ere.proofs.Reading.{going_more, fault_stuck, exact_stuck, all_ran, numbered, whole_reads, fault_end, exact_tree, exact_end, weak_ok, weak_err, either_way}
+use Rattle.posix_ere.proofs.ReadingLemmas.{going_more, fault_stuck, exact_stuck, all_ran, numbered, whole_reads}
+use Rattle.posix_ere.proofs.ReadingLemmas.{fault_end, exact_tree, exact_end, weak_ok, weak_err, either_way}
 use Rattle.posix_ere.proofs.ere.Ere.read.Goals as goal
 
 pub returns-in_err-read-clause-fault : goal.returns-in_err-read-clause-fault
 returns-in_err-read-clause-fault g c =
-    let h = fault_stuck c.args.text.now c.loop-at.at (state_of c.loop-at.reader) c.in_err-read.field-0.0 c.loop-at.invariant (omega arith) c.in_err-read.ensures.stops in
+    let h = fault_stuck c.args.text.now c.loop-at.at
+    (state_of c.loop-at.reader) c.in_err-read.field-0.0 c.loop-at.invariant
+    (omega arith) c.in_err-read.ensures.stops in
     search rules
 
 pub returns-in_err-read-clause-exact : goal.returns-in_err-read-clause-exact
 returns-in_err-read-clause-exact g c t r =
-    let h = exact_stuck c.args.text.now c.loop-at.at (state_of c.loop-at.reader) c.in_err-read.field-0.0 c.loop-at.invariant (omega arith) c.in_err-read.ensures.stops t r in
+    let h = exact_stuck c.args.text.now c.loop-at.at
+    (state_of c.loop-at.reader) c.in_err-read.field-0.0 c.loop-at.invariant
+    (omega arith) c.in_err-read.ensures.stops t r in
     search rules
 
 pub loop-at-preserved : goal.loop-at-preserved
 loop-at-preserved g c =
-    going_more c.args.text.now c.loop-at.at _ (state_of c.loop-at.reader) (state_of c.read.new.self) c.loop-at.invariant (omega arith) refl c.in_ok-read.ensures.ok
+    going_more c.args.text.now c.loop-at.at _ (state_of c.loop-at.reader)
+    (state_of c.read.new.self) c.loop-at.invariant (omega arith) refl c.in_ok-read.ensures.ok
 
 pub finish-requires-clause-numbered : goal.finish-requires-clause-numbered
 finish-requires-clause-numbered g c =

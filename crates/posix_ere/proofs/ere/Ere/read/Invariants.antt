@@ -1,5 +1,5 @@
 use Rattle.posix_ere.specs.Machine.{state_of}
-use Rattle.posix_ere.proofs.Reading.{Going}
+use Rattle.posix_ere.proofs.ReadingLemmas.{Going}
 use Rattle.posix_ere.proofs.ere.Ere.read.Given as goal
 
 abbrev pub invariant-loop-at : goal.invariant-loop-at

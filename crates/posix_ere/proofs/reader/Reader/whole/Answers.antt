@@ -1,7 +1,7 @@
 use Rattle.std.proofs.Common.{◌≡◌, ◌+◌, ◌<◌, ◌^◌, ap, ◌∙◌, arith, length}
 use Rattle.posix_ere.specs.Nodes.{whole}
 use Rattle.posix_ere.specs.Machine.{State, state_of, top_of, ended}
-use Rattle.posix_ere.proofs.Told.{whole_top, expression_of, too_heavy}
+use Rattle.posix_ere.proofs.ToldLemmas.{whole_top, expression_of, too_heavy}
 use Rattle.posix_ere.proofs.reader.Reader.whole.Goals as goal
 
 pub returns-then-weight-gt-MAX_WEIGHT-clause-stops : goal.returns-then-weight-gt-MAX_WEIGHT-clause-stops

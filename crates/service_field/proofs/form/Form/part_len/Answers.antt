@@ -11,5 +11,6 @@ pub returns-clause-value : goal.returns-clause-value
 returns-clause-value c =
     c.unwrap_or.ensures
     ∙ unwrapped c.position.result (length c.args.text.now) (position_or_len (ends_part c.args.self) c.args.text.now)
-    (position_from_yields_List (ends_part c.args.self) _ _ c.position.result c.position.ensures.ran (YieldsList-from_slice c.args.text.now (cc)) (λ x b q k. search (rules, tests)))
+    (position_from_yields_List (ends_part c.args.self) _ _ c.position.result c.position.ensures.ran
+    (YieldsList-from_slice c.args.text.now (cc)) (λ x b q k. search (rules, tests)))
     (prefix_len-le-length (λ b. not (ends_part c.args.self b)) c.args.text.now)

@@ -9,17 +9,25 @@ use Rattle.service_field.proofs.services.EnumServices.type_at.Goals as goal
 missing : (c : goal.In-None) → ◌≡◌ {A = Option (List ℕ)} None (slice_get (cut plus c.self.inside.items.now) c.args.k)
 missing c =
     nth_from_yields_List None c.nth.new.self c.args.k c.in-None.ensures.ran
-    (YieldsList-from_slice_split _ (λ b. b == plus) c.self.inside.items.now c.split.ensures.rest c.split.ensures.done c.split.ensures.closure (λ x b q k. search (rules, tests)))
+    (YieldsList-from_slice_split _
+    (λ b. b == plus) c.self.inside.items.now c.split.ensures.rest c.split.ensures.done c.split.ensures.closure
+    (λ x b q k. search (rules, tests)))
 
 pub returns-in-Some-clause-value : goal.returns-in-Some-clause-value
 returns-in-Some-clause-value c =
-    some_type c.self.inside.items.now c.args.k c.args.self.now c.in-Some.item.now c.first_tag.result.now c.self.view_is (nth_from_yields_List (Some c.in-Some.item) c.nth.new.self c.args.k c.in-Some.ensures.ran
-    (YieldsList-from_slice_split _ (λ b. b == plus) c.self.inside.items.now c.split.ensures.rest c.split.ensures.done c.split.ensures.closure (λ x b q k. search (rules, tests)))) c.first_tag.ensures
+    some_type c.self.inside.items.now c.args.k c.args.self.now c.in-Some.item.now c.first_tag.result.now c.self.view_is
+    (nth_from_yields_List (Some c.in-Some.item) c.nth.new.self c.args.k c.in-Some.ensures.ran
+    (YieldsList-from_slice_split _
+    (λ b. b == plus) c.self.inside.items.now c.split.ensures.rest c.split.ensures.done c.split.ensures.closure
+    (λ x b q k. search (rules, tests)))) c.first_tag.ensures
 
 pub returns-in-Some-clause-none : goal.returns-in-Some-clause-none
 returns-in-Some-clause-none c =
-    within_items c.self.inside.items.now c.args.k c.args.self.now c.in-Some.item.now c.self.view_is (nth_from_yields_List (Some c.in-Some.item) c.nth.new.self c.args.k c.in-Some.ensures.ran
-    (YieldsList-from_slice_split _ (λ b. b == plus) c.self.inside.items.now c.split.ensures.rest c.split.ensures.done c.split.ensures.closure (λ x b q k. search (rules, tests))))
+    within_items c.self.inside.items.now c.args.k c.args.self.now c.in-Some.item.now c.self.view_is
+    (nth_from_yields_List (Some c.in-Some.item) c.nth.new.self c.args.k c.in-Some.ensures.ran
+    (YieldsList-from_slice_split _
+    (λ b. b == plus) c.self.inside.items.now c.split.ensures.rest c.split.ensures.done c.split.ensures.closure
+    (λ x b q k. search (rules, tests))))
 
 pub returns-in-None-clause-value : goal.returns-in-None-clause-value
 returns-in-None-clause-value c = no_type c.self.inside.items.now c.args.k c.args.self.now c.self.view_is (missing c)

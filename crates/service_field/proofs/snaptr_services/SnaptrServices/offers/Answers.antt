@@ -10,9 +10,11 @@ use Rattle.service_field.proofs.snaptr_services.SnaptrServices.offers.Goals as g
 
 pub returns-then-has_service : goal.returns-then-has_service
 returns-then-has_service c =
-    offered c.first_tag.result.now (tags_of c.args.item.now) c.args.self.now c.has_service.result c.all.result c.first_tag.ensures c.has_service.ensures c.if-has_service.true
+    offered c.first_tag.result.now
+    (tags_of c.args.item.now) c.args.self.now c.has_service.result c.all.result c.first_tag.ensures c.has_service.ensures c.if-has_service.true
     (all_from_yields_List (λ tag. list_any (same_tag tag) (other_tags c.args.self.now)) _ _ c.all.result c.all.ensures.ran
     (YieldsList-from_skip 1
-    (YieldsList-from_slice_split _ (λ b. b == colon) c.args.item.now (rw c.skip.ensures.source c.split.ensures.rest) (rw c.skip.ensures.source c.split.ensures.done) refl (λ x b q k. search (rules, tests)))
+    (YieldsList-from_slice_split _ (λ b. b == colon) c.args.item.now (rw c.skip.ensures.source c.split.ensures.rest)
+    (rw c.skip.ensures.source c.split.ensures.done) refl (λ x b q k. search (rules, tests)))
     c.skip.ensures.count)
     (λ x b q k. search (rules, tests)))

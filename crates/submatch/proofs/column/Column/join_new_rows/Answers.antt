@@ -1,6 +1,6 @@
 use Rattle.std.proofs.Common.{arith}
-use Rattle.submatch.proofs.Joining.{places_all}
-use Rattle.submatch.proofs.Closed.{joined_none, joined_next, looked_more}
+use Rattle.submatch.proofs.JoiningLemmas.{places_all}
+use Rattle.submatch.proofs.ClosedLemmas.{joined_none, joined_next, looked_more}
 use Rattle.submatch.proofs.column.Column.join_new_rows.Goals as goal
 
 pub loop-at-init : goal.loop-at-init

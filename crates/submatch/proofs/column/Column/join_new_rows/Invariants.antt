@@ -1,6 +1,6 @@
 use Rattle.std.proofs.Common.{ℕ, ◌+◌, ◌-◌, ◌<◌, ◌≤◌}
 use Rattle.submatch.specs.Rows.{Has}
-use Rattle.submatch.proofs.Closed.{IsJoinedTo}
+use Rattle.submatch.proofs.ClosedLemmas.{IsJoinedTo}
 use Rattle.submatch.proofs.column.Column.join_new_rows.Given as goal
 
 abbrev pub decreases-loop-at : goal.decreases-loop-at

@@ -1,5 +1,5 @@
 use Rattle.std.proofs.Common.{◌+◌, ◌-◌, ◌%◌, ◌<◌, ◌≤◌, arith}
-use Rattle.submatch.proofs.Joining.{places_none, places_next, places_all}
+use Rattle.submatch.proofs.JoiningLemmas.{places_none, places_next, places_all}
 use Rattle.submatch.proofs.column.Column.join_rows.Goals as goal
 
 pub loop-at-init : goal.loop-at-init

@@ -1,6 +1,6 @@
 use Rattle.std.proofs.Common.{ℕ, ◌+◌, ◌-◌, ◌<◌, ◌≤◌}
 use Rattle.submatch.specs.Rows.{Has, AddsPlaces}
-use Rattle.submatch.proofs.Joining.{LeadsBetween}
+use Rattle.submatch.proofs.JoiningLemmas.{LeadsBetween}
 use Rattle.submatch.proofs.column.Column.join_rows.Given as goal
 
 abbrev pub decreases-loop-at : goal.decreases-loop-at

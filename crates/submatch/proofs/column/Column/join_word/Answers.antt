@@ -1,5 +1,5 @@
 use Rattle.std.proofs.Common.{◌≤◌, ◌+◌, arith}
-use Rattle.submatch.proofs.Joining.{word_none, word_next, word_all}
+use Rattle.submatch.proofs.JoiningLemmas.{word_none, word_next, word_all}
 use Rattle.submatch.proofs.column.Column.join_word.Goals as goal
 
 pub loop-left-init : goal.loop-left-init

@@ -1,5 +1,5 @@
 use Rattle.std.proofs.Common.{◌+◌, ◌≤◌}
-use Rattle.submatch.proofs.Joining.{IsWordGone}
+use Rattle.submatch.proofs.JoiningLemmas.{IsWordGone}
 use Rattle.submatch.proofs.column.Column.join_word.Given as goal
 
 abbrev pub decreases-loop-left : goal.decreases-loop-left

@@ -3,8 +3,8 @@ use Rattle.posix_ere.specs.Parts.{weight}
 use Rattle.posix_ere.specs.Nodes.{tree_at}
 use Rattle.submatch.specs.Best.{TellsBest}
 use Rattle.submatch.specs.Table.{square, tree_of}
-use Rattle.submatch.proofs.Finding.{none_told, one_told, whole_told, groups_told}
-use Rattle.submatch.proofs.Spending.{spent_in_all}
+use Rattle.submatch.proofs.FindingLemmas.{none_told, one_told, whole_told, groups_told}
+use Rattle.submatch.proofs.SpendingLemmas.{spent_in_all}
 use Rattle.submatch.proofs.matcher.Matcher.find.Goals as goal
 
 pub returns-in_err-whole-clause-bounded : goal.returns-in_err-whole-clause-bounded

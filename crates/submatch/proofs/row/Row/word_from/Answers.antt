@@ -1,5 +1,5 @@
 use Rattle.std.proofs.Common.{◌≡◌, ◌/◌, ◌∙◌, ap, get_or}
-use Rattle.submatch.proofs.Joining.{word_bits}
+use Rattle.submatch.proofs.JoiningLemmas.{word_bits}
 use Rattle.submatch.proofs.row.Row.word_from.Goals as goal
 
 pub returns : goal.returns

@@ -2,7 +2,7 @@ use Rattle.std.proofs.Common.{◌+◌, ◌*◌}
 use Rattle.posix_ere.specs.Parts.{parts_of}
 use Rattle.posix_ere.specs.Nodes.{tree_at}
 use Rattle.submatch.specs.Table.{square}
-use Rattle.submatch.proofs.Compiling.{AreCompiled}
+use Rattle.submatch.proofs.CompilingLemmas.{AreCompiled}
 use Rattle.submatch.proofs.search.Search.+compile.Given as goal
 
 abbrev pub decreases-compile : goal.decreases-compile

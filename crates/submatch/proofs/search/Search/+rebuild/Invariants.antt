@@ -1,8 +1,8 @@
 use Rattle.std.proofs.Common.{◌+◌, ◌*◌, ◌≤◌}
 use Rattle.posix_ere.specs.Parts.{parts_of}
 use Rattle.submatch.specs.Table.{tree_of, square}
-use Rattle.submatch.proofs.Compiling.{weights_to}
-use Rattle.submatch.proofs.Rebuilding.{HaveCome}
+use Rattle.submatch.proofs.CompilingLemmas.{weights_to}
+use Rattle.submatch.proofs.RebuildingLemmas.{HaveCome}
 use Rattle.submatch.proofs.search.Search.+rebuild.Given as goal
 
 abbrev pub decreases-rebuild : goal.decreases-rebuild

@@ -4,7 +4,7 @@ use Rattle.submatch.specs.Parses.{Parses, IsParse}
 use Rattle.submatch.specs.Greater.{IsGreatestParse}
 use Rattle.submatch.specs.Groups.{groups_of, with_groups}
 use Rattle.submatch.specs.Table.{tree_of}
-use Rattle.submatch.proofs.Finding.{no_match, greatest_from}
+use Rattle.submatch.proofs.FindingLemmas.{no_match, greatest_from}
 use Rattle.submatch.proofs.search.Search.best_from.Goals as goal
 
 pub returns-in_default-clause-greatest : goal.returns-in_default-clause-greatest

@@ -3,7 +3,7 @@ use Rattle.posix_ere.specs.Parts.{parts_of, count_of}
 use Rattle.submatch.specs.Parses.{IsParse}
 use Rattle.submatch.specs.Ends.{Reaches}
 use Rattle.submatch.specs.Table.{tree_of}
-use Rattle.submatch.proofs.Rebuilding.{some_branch, alt_reaches, not_this_branch, last_reaches}
+use Rattle.submatch.proofs.RebuildingLemmas.{some_branch, alt_reaches, not_this_branch, last_reaches}
 use Rattle.submatch.proofs.search.Search.earliest.Goals as goal
 
 pub overflow_sub-last : goal.overflow_sub-last
@@ -20,7 +20,9 @@ loop-k-preserved g c =
       looked = omega (arith, c.loop-k.invariant.looked, c.row-row.ensures.steps);
       earlier = not_this_branch F W (parts_of (tree_of c.args.self.now.ere.now c.args.table.now c.args.number)) c.args.over.from c.args.over.to c.loop-k.k
           (λ h. let r = subst (λ x. Reaches (IsParse F W x) c.args.over.from c.args.over.to) (sym c.inside-branch.ensures.tree) h in
-          let e : c.has.result ≡ true = c.has.ensures.1 (c.row-row.ensures.row.all c.args.over.to (c.own.ensures.column.all c.args.over.from c.args.over.to c.requires.within r)) in
+          let e : c.has.result ≡ true =
+          c.has.ensures.1 (c.row-row.ensures.row.all c.args.over.to
+          (c.own.ensures.column.all c.args.over.from c.args.over.to c.requires.within r)) in
           cc (e, c.if-has.false))
           c.loop-k.invariant.earlier;
     }
@@ -38,7 +40,9 @@ returns-then-has-clause-most g c = subst (λ x. c.row-row.new.steps + 1 ≤ c.ar
     (omega (arith, c.loop-k.invariant.looked, c.row-row.ensures.steps, c.loop-k-test.true))
 
 pub returns-then-has-clause-reached : goal.returns-then-has-clause-reached
-returns-then-has-clause-reached g c = c.own.ensures.column.each c.args.over.from c.args.over.to (c.row-row.ensures.row.each c.args.over.to (c.has.ensures.0 c.if-has.true))
+returns-then-has-clause-reached g c =
+    c.own.ensures.column.each c.args.over.from c.args.over.to
+    (c.row-row.ensures.row.each c.args.over.to (c.has.ensures.0 c.if-has.true))
 
 pub inside-requires-clause-kth : goal.inside-requires-clause-kth
 inside-requires-clause-kth g c =

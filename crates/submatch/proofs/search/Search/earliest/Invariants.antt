@@ -7,5 +7,7 @@ use Rattle.submatch.proofs.search.Search.earliest.Given as goal
 abbrev pub invariant-loop-k : goal.invariant-loop-k
 invariant-loop-k g l = record {
   looked : l.steps ≤ l.fn.steps + l.k;
-  earlier : (d : ℕ) (b : Parses) → d < l.k → IsBranch l.self.fold l.self.text.now (parts_of (tree_of l.self.ere.now l.table l.number)) d l.over.from l.over.to b → ⊥;
+  earlier : (d : ℕ) (b : Parses) → d < l.k
+      → IsBranch l.self.fold l.self.text.now
+      (parts_of (tree_of l.self.ere.now l.table l.number)) d l.over.from l.over.to b → ⊥;
 }

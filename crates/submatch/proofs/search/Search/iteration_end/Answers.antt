@@ -6,8 +6,8 @@ use Rattle.submatch.specs.Parses.{IsParse, IsBelow}
 use Rattle.submatch.specs.Ends.{Reaches}
 use Rattle.submatch.specs.Rows.{IsColumn}
 use Rattle.submatch.specs.Table.{tree_of}
-use Rattle.submatch.proofs.EndsOfRows.{forward_column}
-use Rattle.submatch.proofs.Turning.{iteration_turns}
+use Rattle.submatch.proofs.EndsOfRowsLemmas.{forward_column}
+use Rattle.submatch.proofs.TurningLemmas.{iteration_turns}
 use Rattle.submatch.proofs.search.Search.iteration_end.Goals as goal
 
 pub longest_turn-requires-clause-forward : goal.longest_turn-requires-clause-forward

@@ -1,8 +1,8 @@
 use Rattle.std.proofs.Common.{◌+◌, ◌*◌, ◌∙◌, length}
 use Rattle.submatch.specs.Rows.{StopsOrGoes}
 use Rattle.submatch.proofs.ColumnLemmas.{filled_next}
-use Rattle.submatch.proofs.Closed.{closed_after}
-use Rattle.submatch.proofs.Counts.{row_more}
+use Rattle.submatch.proofs.ClosedLemmas.{closed_after}
+use Rattle.submatch.proofs.CountsLemmas.{row_more}
 use Rattle.submatch.proofs.search.Search.joined.Goals as goal
 
 pub joined_row-row-requires-clause-closed : goal.joined_row-row-requires-clause-closed

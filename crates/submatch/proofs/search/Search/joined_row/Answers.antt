@@ -1,14 +1,15 @@
 use Rattle.std.proofs.Common.{ℕ, ◌+◌, ◌≤◌, ◌<◌, length, arith}
 use Rattle.submatch.specs.Rows.{Has}
 use Rattle.submatch.proofs.ColumnLemmas.{row_gone, leads_inside}
-use Rattle.submatch.proofs.Closed.{one_is_closed}
+use Rattle.submatch.proofs.ClosedLemmas.{one_is_closed}
 use Rattle.submatch.proofs.search.Search.joined_row.Goals as goal
 
 pub join_rows-requires-clause-row : goal.join_rows-requires-clause-row
 join_rows-requires-clause-row g c = λ closed. one_is_closed c.args.rest.now c.args.joint.stops c.args.from c.one-row.result c.one-row.ensures
 
 pub returns-clause-row : goal.returns-clause-row
-returns-clause-row g c = row_gone c.args.joint.stops c.args.joint.empties c.args.part.now c.args.rest.now c.args.from c.row-first.result c.one-row.result c.join_rows.new.row
+returns-clause-row g c =
+    row_gone c.args.joint.stops c.args.joint.empties c.args.part.now c.args.rest.now c.args.from c.row-first.result c.one-row.result c.join_rows.new.row
     c.join.new.self c.row-first.ensures.row (λ at h. (c.requires.forward c.args.from at (c.row-first.ensures.row.each at h)).0) c.one-row.ensures
     c.row_after-here.result c.row_after-here.ensures.row c.join_rows.ensures.row c.join.ensures
 

@@ -4,8 +4,8 @@ use Rattle.std.proofs.lemmas.Bool.{leb-true, le-leb}
 use Rattle.posix_ere.specs.Nodes.{tree_at}
 use Rattle.submatch.specs.Rows.{IsColumn}
 use Rattle.submatch.specs.Table.{PartValue, part_at, last_count}
-use Rattle.submatch.proofs.Adding.{map_ok}
-use Rattle.submatch.proofs.EndsOfRows.{Iterations, last_iterations}
+use Rattle.submatch.proofs.AddingLemmas.{map_ok}
+use Rattle.submatch.proofs.EndsOfRowsLemmas.{Iterations, last_iterations}
 use Rattle.submatch.proofs.search.Search.last_column.Goals as goal
 
 pub returns-in-Some-clause-column : goal.returns-in-Some-clause-column
@@ -23,6 +23,9 @@ pub returns-in-None-clause-column : goal.returns-in-None-clause-column
 returns-in-None-clause-column g c =
     let F = c.args.self.now.fold in
     let W = c.args.self.now.text.now in
-    subst (λ o. IfOk c.looped.result (IsColumn (length W) (Iterations F W (tree_at c.args.self.now.ere.now (part_at c.args.table.now c.args.part).at) c.args.least o (last_count c.args.least o)))) (sym c.in-None.is)
+    subst (λ o. IfOk c.looped.result
+    (IsColumn (length W) (Iterations F W
+    (tree_at c.args.self.now.ere.now (part_at c.args.table.now c.args.part).at) c.args.least o
+    (last_count c.args.least o)))) (sym c.in-None.is)
     (subst (λ a. IfOk c.looped.result (IsColumn (length W) (Iterations F W (tree_at c.args.self.now.ere.now a) c.args.least None (max c.args.least 1))))
     (c.at.ensures ∙ ap (λ (p : PartValue). p.at) c.part.ensures) c.looped.ensures.column)

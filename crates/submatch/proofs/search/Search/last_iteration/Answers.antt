@@ -1,8 +1,8 @@
 use Rattle.std.proofs.Common.{◌≡◌, ◌+◌, ◌≤◌, length, arith}
 use Rattle.posix_ere.specs.Parts.{parts_of, part}
 use Rattle.submatch.specs.Table.{tree_of, last_count}
-use Rattle.submatch.proofs.Counts.{row_more}
-use Rattle.submatch.proofs.Iterating.{has_gone_on, has_stopped, at_the_bound, turns_within}
+use Rattle.submatch.proofs.CountsLemmas.{row_more}
+use Rattle.submatch.proofs.IteratingLemmas.{has_gone_on, has_stopped, at_the_bound, turns_within}
 use Rattle.submatch.proofs.search.Search.last_iteration.Goals as goal
 
 pub loop-done-preserved : goal.loop-done-preserved
@@ -23,7 +23,8 @@ returns-in_default-clause-groups g c = has_stopped c.args.self.now.fold c.args.s
 pub returns-in_default-clause-most : goal.returns-in_default-clause-most
 returns-in_default-clause-most g c = turns_within c.args.steps.now c.iteration_end.new.steps (c.loop-done.done + 1) c.iterations_bound-done-end.result
     (last_count c.args.rep.least c.args.rep.most + length c.args.self.now.text.now + 1) (length c.args.self.now.text.now)
-    (let less : c.loop-done.done + 1 ≤ c.iterations_bound-done-end.result = omega (arith, c.loop-done-test.true) in less) c.iterations_bound-done-end.ensures.most
+    (let less : c.loop-done.done + 1 ≤ c.iterations_bound-done-end.result = omega (arith, c.loop-done-test.true)
+    in less) c.iterations_bound-done-end.ensures.most
     (row_more c.args.steps.now c.loop-done.steps c.iteration_end.new.steps c.loop-done.done (length c.args.self.now.text.now + 2) c.loop-done.invariant.1
     c.in_default.ensures.most)
 

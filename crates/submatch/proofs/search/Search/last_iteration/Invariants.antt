@@ -1,7 +1,7 @@
 use Rattle.std.proofs.Common.{◌+◌, ◌*◌, ◌≤◌, length}
 use Rattle.posix_ere.specs.Parts.{parts_of, part}
 use Rattle.submatch.specs.Table.{tree_of}
-use Rattle.submatch.proofs.Iterating.{HasCome}
+use Rattle.submatch.proofs.IteratingLemmas.{HasCome}
 use Rattle.submatch.proofs.search.Search.last_iteration.Given as goal
 
 abbrev pub invariant-loop-done : goal.invariant-loop-done

@@ -3,11 +3,13 @@ use Rattle.posix_ere.specs.Parts.{parts_of, part, count_of}
 use Rattle.submatch.specs.Parses.{IsParse}
 use Rattle.submatch.specs.Ends.{Reaches}
 use Rattle.submatch.specs.Table.{tree_of}
-use Rattle.submatch.proofs.Rebuilding.{last_reached}
+use Rattle.submatch.proofs.RebuildingLemmas.{last_reached}
 use Rattle.submatch.proofs.search.Search.last_piece.Goals as goal
 
 pub returns-clause-tree : goal.returns-clause-tree
-returns-clause-tree g c = c.inside.ensures.tree ∙ ap (λ x. part (parts_of (tree_of c.args.self.now.ere.now c.args.table.now c.args.number)) (x - 1)) c.count_inside-count.ensures
+returns-clause-tree g c = c.inside.ensures.tree
+    ∙ ap (λ x. part (parts_of (tree_of c.args.self.now.ere.now c.args.table.now c.args.number))
+    (x - 1)) c.count_inside-count.ensures
 
 pub returns-clause-reached : goal.returns-clause-reached
 returns-clause-reached g c =

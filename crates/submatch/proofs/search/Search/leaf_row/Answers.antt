@@ -3,7 +3,7 @@ use Rattle.std.proofs.Math.Dec.{eqb}
 use Rattle.std.proofs.lemmas.Bool.{eqb-true, eq-eqb}
 use Rattle.posix_ere.specs.Nodes.{tree_at}
 use Rattle.submatch.specs.Ends.{IsLeaf}
-use Rattle.submatch.proofs.EndsOfNodes.{IsByteNode, is_byte_node, byte_ends, ends_of_start, ends_of_end, not_leaf}
+use Rattle.submatch.proofs.EndsOfNodesLemmas.{IsByteNode, is_byte_node, byte_ends, ends_of_start, ends_of_end, not_leaf}
 use Rattle.submatch.proofs.search.Search.leaf_row.Goals as goal
 
 pub returns-in-Start : goal.returns-in-Start

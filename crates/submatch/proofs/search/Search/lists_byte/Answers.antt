@@ -1,4 +1,4 @@
-use Rattle.submatch.proofs.Listed.{listed_by}
+use Rattle.submatch.proofs.ListedLemmas.{listed_by}
 use Rattle.submatch.proofs.search.Search.lists_byte.Goals as goal
 
 pub returns : goal.returns

@@ -2,9 +2,9 @@ use Rattle.std.proofs.Common.{◌≡◌, ◌-◌, ◌≤◌, length, subst, sym,
 use Rattle.submatch.specs.Parses.{IsParse}
 use Rattle.submatch.specs.Ends.{Reaches}
 use Rattle.submatch.specs.Table.{column_at, part_at, tree_of}
-use Rattle.submatch.proofs.Ends.{IsWithin, parse_within}
-use Rattle.submatch.proofs.Turning.{none_from, longest_here}
-use Rattle.submatch.proofs.Spending.{no_rows}
+use Rattle.submatch.proofs.EndsLemmas.{IsWithin, parse_within}
+use Rattle.submatch.proofs.TurningLemmas.{none_from, longest_here}
+use Rattle.submatch.proofs.SpendingLemmas.{no_rows}
 use Rattle.submatch.proofs.search.Search.longest_end.Goals as goal
 
 pub loop-end-init : goal.loop-end-init
@@ -17,7 +17,10 @@ pub loop-end-preserved : goal.loop-end-preserved
 loop-end-preserved g c =
     none_from (Reaches (IsParse c.args.self.now.fold c.args.self.now.text.now (tree_of c.args.self.now.ere.now c.args.table.now c.args.number)) c.args.from)
     (c.loop-end.end - 1) c.loop-end.end (omega arith)
-    (λ h. let here : c.has.result ≡ true = c.has.ensures.1 (c.row-row.ensures.row.all (c.loop-end.end - 1) (c.own.ensures.column.all c.args.from (c.loop-end.end - 1) c.requires.within h)) in
+    (λ h. let here : c.has.result
+    ≡ true = c.has.ensures.1
+    (c.row-row.ensures.row.all (c.loop-end.end - 1)
+    (c.own.ensures.column.all c.args.from (c.loop-end.end - 1) c.requires.within h)) in
     cc (here, c.if-has.false))
     c.loop-end.invariant
 

@@ -1,6 +1,6 @@
 use Rattle.std.proofs.Common.{◌≡◌, ◌-◌, ◌≤◌, length, arith, true}
 use Rattle.submatch.specs.Rows.{IsTurn}
-use Rattle.submatch.proofs.Turning.{none_from, longest_here}
+use Rattle.submatch.proofs.TurningLemmas.{none_from, longest_here}
 use Rattle.submatch.proofs.search.Search.longest_turn.Goals as goal
 
 pub loop-end-init : goal.loop-end-init

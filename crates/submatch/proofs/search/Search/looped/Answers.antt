@@ -1,7 +1,7 @@
 use Rattle.std.proofs.Common.{◌≡◌, ◌+◌, ◌-◌, ◌*◌, ◌≤◌, ◌∙◌, length, subst, sym, refl, arith}
 use Rattle.posix_ere.specs.Nodes.{tree_at}
-use Rattle.submatch.proofs.EndsOfRows.{IsLoopedFrom, forward_column, looped_none, looped_next, looped_all, looped_closed}
-use Rattle.submatch.proofs.Counts.{row_less, rows_within}
+use Rattle.submatch.proofs.EndsOfRowsLemmas.{IsLoopedFrom, forward_column, looped_none, looped_next, looped_all, looped_closed}
+use Rattle.submatch.proofs.CountsLemmas.{row_less, rows_within}
 use Rattle.submatch.proofs.search.Search.looped.Goals as goal
 
 pub loop-from-init : goal.loop-from-init
@@ -27,14 +27,18 @@ joined_row-row-requires-clause-closed g c = λ closed.
     (subst (λ x. IsLoopedFrom c.args.self.now.fold c.args.self.now.text.now tree c.args.least x c.loop-from.column) same c.loop-from.invariant.0)
 
 pub set-requires : goal.set-requires
-set-requires g c = let long : length c.loop-from.column ≡ length c.args.self.now.text.now + 1 = (c.loop-from.invariant.0).long in let up : c.loop-from.from ≤ c.places-from.result = c.loop-from.auto.from in omega arith
+set-requires g c = let long : length c.loop-from.column ≡ length c.args.self.now.text.now + 1 =
+    (c.loop-from.invariant.0).long in let up : c.loop-from.from ≤ c.places-from.result = c.loop-from.auto.from
+    in omega arith
 
 pub loop-from-preserved : goal.loop-from-preserved
 loop-from-preserved g c =
     let tree = tree_at c.args.self.now.ere.now c.args.child in
     let same : c.loop-from.from ≡ c.loop-from.from - 1 + 1 = omega arith in (
       looped_next c.args.self.now.fold c.args.self.now.text.now tree c.args.least (c.loop-from.from - 1) c.args.part.now c.loop-from.column
-          c.set.new.self c.joined_row-row.result (let up : c.loop-from.from ≤ c.places-from.result = c.loop-from.auto.from in omega arith) c.requires.part c.set.ensures c.joined_row-row.ensures.row
+          c.set.new.self c.joined_row-row.result
+          (let up : c.loop-from.from ≤ c.places-from.result = c.loop-from.auto.from
+          in omega arith) c.requires.part c.set.ensures c.joined_row-row.ensures.row
           (subst (λ x. IsLoopedFrom c.args.self.now.fold c.args.self.now.text.now tree c.args.least x c.loop-from.column) same c.loop-from.invariant.0),
       row_less c.loop-from.steps c.joined_row-row.new.steps (c.loop-from.from - 1) (2 * (length c.args.self.now.text.now + 1))
           (c.args.steps.now + (length c.args.self.now.text.now + 1) * (2 * (length c.args.self.now.text.now + 1)))

@@ -1,6 +1,6 @@
 use Rattle.std.proofs.Common.{◌≡◌, ◌+◌, ◌*◌, ◌≤◌, length}
 use Rattle.posix_ere.specs.Nodes.{tree_at}
-use Rattle.submatch.proofs.EndsOfRows.{IsLoopedFrom}
+use Rattle.submatch.proofs.EndsOfRowsLemmas.{IsLoopedFrom}
 use Rattle.submatch.proofs.search.Search.looped.Given as goal
 
 abbrev pub invariant-loop-from : goal.invariant-loop-from

@@ -1,4 +1,4 @@
-use Rattle.submatch.proofs.Making.{dead_made}
+use Rattle.submatch.proofs.MakingLemmas.{dead_made}
 use Rattle.submatch.proofs.search.Search.made_dead.Goals as goal
 
 pub returns-clause-made : goal.returns-clause-made

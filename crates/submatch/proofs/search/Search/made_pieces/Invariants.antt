@@ -2,8 +2,8 @@ use Rattle.std.proofs.Common.{◌+◌, ◌*◌, ◌≤◌, length}
 use Rattle.posix_ere.specs.Parts.{parts_of}
 use Rattle.posix_ere.specs.Nodes.{tree_at}
 use Rattle.submatch.specs.Table.{square}
-use Rattle.submatch.proofs.EndsOfRows.{Pieces}
-use Rattle.submatch.proofs.Growing.{AreBuilt}
+use Rattle.submatch.proofs.EndsOfRowsLemmas.{Pieces}
+use Rattle.submatch.proofs.GrowingLemmas.{AreBuilt}
 use Rattle.submatch.proofs.search.Search.made_pieces.Given as goal
 
 abbrev pub invariant-loop-k : goal.invariant-loop-k

@@ -2,8 +2,8 @@ use Rattle.std.proofs.Common.{◌≡◌, ◌+◌, ◌*◌, ◌≤◌, length, sl
 use Rattle.posix_ere.specs.Parts.{parts_of, part}
 use Rattle.posix_ere.specs.Nodes.{tree_at}
 use Rattle.submatch.specs.Table.{square, column_at, part_at}
-use Rattle.submatch.proofs.EndsOfRows.{Iterations}
-use Rattle.submatch.proofs.Growing.{AreBuilt}
+use Rattle.submatch.proofs.EndsOfRowsLemmas.{Iterations}
+use Rattle.submatch.proofs.GrowingLemmas.{AreBuilt}
 use Rattle.submatch.proofs.search.Search.made_rep.Given as goal
 
 abbrev pub invariant-loop-k : goal.invariant-loop-k

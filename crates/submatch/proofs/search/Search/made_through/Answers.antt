@@ -1,6 +1,6 @@
 use Rattle.std.proofs.Common.{◌<◌, ◌∙◌, ap, sym, subst, length}
 use Rattle.submatch.specs.Table.{PartValue, part_at}
-use Rattle.submatch.proofs.Making.{index_is, through_made}
+use Rattle.submatch.proofs.MakingLemmas.{index_is, through_made}
 use Rattle.submatch.proofs.search.Search.made_through.Goals as goal
 
 pub returns-clause-made : goal.returns-clause-made

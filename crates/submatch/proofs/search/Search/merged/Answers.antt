@@ -1,7 +1,7 @@
 use Rattle.std.proofs.Common.{length}
 use Rattle.submatch.specs.Table.{LeadsSome}
 use Rattle.submatch.proofs.ColumnLemmas.{filled_next}
-use Rattle.submatch.proofs.Counts.{row_more}
+use Rattle.submatch.proofs.CountsLemmas.{row_more}
 use Rattle.submatch.proofs.search.Search.merged.Goals as goal
 
 pub loop-from-preserved : goal.loop-from-preserved

@@ -1,4 +1,4 @@
-use Rattle.subst_expr.proofs.OneSplit.{same_split_of}
+use Rattle.subst_expr.proofs.OneSplitLemmas.{same_split_of}
 use Rattle.subst_expr.proofs.subst.Subst.split.Goals as goal
 
 pub returns-clause-only : goal.returns-clause-only

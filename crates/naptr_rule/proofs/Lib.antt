@@ -1,0 +1,4 @@
+pub mod BareLemmas
+pub mod InLemmas
+pub mod RdataLemmas
+pub mod RuleLemmas
