@@ -136,10 +136,6 @@ def faults():
         if path.stem != "Lib" and not re.search("cases|tests", path.parents[1].name)
     }
     yield from (f"TRUSTED: not named: {file}" for file in sorted(there - set(named)))
-    for crate, file in sorted(there):
-        for name, comment, value in definitions_of(TOP / f"crates/{crate}/specs/{file}.antt")[1]:
-            if not comment and not value:
-                yield f"no comment: {crate}/{file}: {name}"
     page = TOP / "docs/DEFINITIONS.md"
     if not page.exists() or page.read_text() != index():
         yield "DEFINITIONS: not as this script writes it"

@@ -15,12 +15,14 @@ A comment before a block says what it wants:
          before COMMAND           a command that runs first
          slow -->                 only with --all
 
-Of a table under "check: rules" each rule gives nothing, and of one under "check: faults" each entry has its fault.
+Of a table under "check: rules" each rule gives nothing, and of one under "check: faults" each entry has its fault. The
+blocks that want nothing stand in crates/cases_top too, with their files, so that the gate runs them.
 """
 import argparse
 import os
 import pathlib
 import re
+import shlex
 import shutil
 import socket
 import subprocess
@@ -173,6 +175,25 @@ def run_row(kind, row, enumd, folder):
     return ("passed", "") if good else ("failed", done.stdout + done.stderr)
 
 
+def missing_of(blocks):
+    """What the transcript of crates/cases_top lacks of the blocks of the page that want nothing."""
+    transcript = (TOP / "crates/cases_top/stdout").read_text()
+    lines = set(transcript.splitlines())
+    for block in blocks:
+        if block.wants or not block.place.startswith("README") or block.printed is None:
+            continue
+        for name in re.findall(r"examples/\w+\.db", block.commands):
+            text = "".join(f": {line}".rstrip() + "\n" for line in (TOP / name).read_text().splitlines())
+            if f"file {name}\n{text}" not in transcript:
+                yield f"{block.place}: {name}"
+        for words in re.findall(r"^enumd (resolve [^;\n]*)", re.sub(r" *\\\n *", " ", block.commands), re.M):
+            if "run " + "|".join(shlex.split(words)) not in lines:
+                yield f"{block.place}: {words}"
+        for line in block.printed.splitlines():
+            if not line.isdigit() and f"> {line}" not in lines and f"! {line}" not in lines:
+                yield f"{block.place}: {line}"
+
+
 def main():
     parser = argparse.ArgumentParser(description=__doc__, formatter_class=argparse.RawDescriptionHelpFormatter)
     parser.add_argument("--enumd", default=str(TOP / "crates/enumd/out/enumd"))
@@ -210,6 +231,8 @@ def main():
             for row in rows:
                 if options.only in row:
                     tell(row, *run_row(kind, row, enumd, folder))
+    missing = list(missing_of(blocks))
+    tell("crates/cases_top", "failed" if missing else "passed", "\n".join(missing))
     if shutil.which("mandoc"):
         lint = subprocess.run(["mandoc", "-Tlint", TOP / "docs/enumd.1"], capture_output=True, text=True)
         tell("docs/enumd.1", "failed" if lint.stdout + lint.stderr else "passed", lint.stdout + lint.stderr)

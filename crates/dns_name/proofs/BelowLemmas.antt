@@ -27,7 +27,8 @@ same_by_wires one other n m = (
 )
 
 -- the same, of wire bytes that are known to be theirs
-pub AreSame-iff : (one other : List (List ℕ)) (a b : List ℕ) (T : Type 0) → IsName one → IsName other → a ≡ wire_of one → b ≡ wire_of other → T ↔ (folded a ≡ folded b) → T ↔ AreSame one other
+pub AreSame-iff : (one other : List (List ℕ)) (a b : List ℕ) (T : Type 0) → IsName one → IsName other → a ≡ wire_of one
+    → b ≡ wire_of other → T ↔ (folded a ≡ folded b) → T ↔ AreSame one other
 AreSame-iff one other a b T n m a_is b_is h =
     let s = same_by_wires one other n m in (
       λ t. s.0 (ap folded (sym a_is) ∙ h.0 t ∙ ap folded b_is),
@@ -41,7 +42,9 @@ IsWire-name labels wire is h = let P : List ℕ → Type 0 = IsWire in subst P (
 pub labels_of-name : (labels : List (List ℕ)) (wire : List ℕ) → wire ≡ wire_of labels → IsName labels → labels_of wire ≡ labels
 labels_of-name labels wire is h = ap labels_of is ∙ labels_of-wire_of labels h.each
 
-pub parent_of-met : (labels : List (List ℕ)) (wire rest label : List ℕ) (above : List (List ℕ)) → IsName labels → wire ≡ wire_of labels → labels_of wire ≡ label ∷ labels_of rest → above ≡ labels_of rest → Some above ≡ parent_of labels
+pub parent_of-met : (labels : List (List ℕ)) (wire rest label : List ℕ) (above : List (List ℕ)) → IsName labels
+    → wire ≡ wire_of labels → labels_of wire ≡ label ∷ labels_of rest → above ≡ labels_of rest
+    → Some above ≡ parent_of labels
 parent_of-met labels wire rest label above h is cut above_is =
     ap Some above_is ∙ ap parent_of (sym cut ∙ labels_of-name labels wire is h)
 
@@ -62,13 +65,16 @@ each-end (x ∷ front) back h = each-end front back h.1
 
 end_of : (label : List ℕ) (front back : List (List ℕ)) → IsName (label ∷ front ++ back) → IsEnd label front back
 end_of label front back h =
-    let whole : length (wire_of (front ++ back)) ≡ length (flat_map label_wire front) + length (wire_of back) = ap length (sym (wire_of-append front back)) ∙ length-append (flat_map label_wire front) (wire_of back) in
-    let first : length (wire_of (label ∷ front ++ back)) ≡ length (label_wire label) + length (wire_of (front ++ back)) = ap length (append_assoc (label_wire label) (flat_map label_wire (front ++ back)) (0 ∷ [])) ∙ length-append (label_wire label) (wire_of (front ++ back)) in
+    let whole : length (wire_of (front ++ back)) ≡ length (flat_map label_wire front) + length (wire_of back) = ap length (sym (wire_of-append front back))
+    ∙ length-append (flat_map label_wire front) (wire_of back) in
+    let first : length (wire_of (label ∷ front ++ back)) ≡ length (label_wire label) + length (wire_of (front ++ back)) = ap length (append_assoc (label_wire label) (flat_map label_wire (front ++ back)) (0 ∷ []))
+    ∙ length-append (label_wire label) (wire_of (front ++ back)) in
     let short = h.short in
     (record { each = each-end front back h.each.1; short = omega arith }, omega arith)
 
 -- a name that is longer is below another where it is without its first label
-below-longer : (label : List ℕ) (labels top : List (List ℕ)) → IsName (label ∷ labels) → IsName top → length (wire_of top) < length (wire_of (label ∷ labels)) → IsBelow (label ∷ labels) top → IsBelow labels top
+below-longer : (label : List ℕ) (labels top : List (List ℕ)) → IsName (label ∷ labels) → IsName top
+    → length (wire_of top) < length (wire_of (label ∷ labels)) → IsBelow (label ∷ labels) top → IsBelow labels top
 below-longer label labels top n t longer ([], back, parts, same) =
     let P : List (List ℕ) → Type 0 = IsName in
     let e = size_same back top (subst P parts n) t same in
@@ -77,7 +83,8 @@ below-longer label labels top n t longer ([], back, parts, same) =
 below-longer label labels top n t longer (x ∷ front, back, parts, same) = (front, back, cc, same)
 
 -- one that is not longer is below another only where they are the same
-below-short : (labels top : List (List ℕ)) → IsName labels → IsName top → length (wire_of labels) ≤ length (wire_of top) → IsBelow labels top → AreSame labels top
+below-short : (labels top : List (List ℕ)) → IsName labels → IsName top → length (wire_of labels) ≤ length (wire_of top)
+    → IsBelow labels top → AreSame labels top
 below-short labels top n t short ([], back, parts, same) = ap folded_labels parts ∙ same
 below-short labels top n t short (x ∷ front, back, parts, same) =
     let P : List (List ℕ) → Type 0 = IsName in
@@ -98,7 +105,9 @@ AreRest-all name top wire is h =
     record { spelt = IsWire-name name wire is h; below = subst P (sym (labels_of-name name wire is h)) (λ b. b, λ b. b) }
 
 -- one label less
-pub AreRest-step : (wire rest label : List ℕ) (name top : List (List ℕ)) (most : List ℕ) → AreRest wire name top → IsName top → labels_of wire ≡ label ∷ labels_of rest → IsWire rest → most ≡ wire_of top → length most < length wire → AreRest rest name top
+pub AreRest-step : (wire rest label : List ℕ) (name top : List (List ℕ)) (most : List ℕ) → AreRest wire name top
+    → IsName top → labels_of wire ≡ label ∷ labels_of rest → IsWire rest → most ≡ wire_of top
+    → length most < length wire → AreRest rest name top
 AreRest-step wire rest label name top most h t cut is most_is longer =
     let named : IsName (label ∷ labels_of rest) = let P : List (List ℕ) → Type 0 = IsName in subst P cut h.spelt.name in
     let whole : length (wire_of (label ∷ labels_of rest)) ≡ length wire = ap (λ l. length (wire_of l)) (sym cut) ∙ ap length h.spelt.wire in
@@ -113,7 +122,8 @@ AreRest-step wire rest label name top most h t cut is most_is longer =
     }
 
 -- the last comparison decides
-pub IsBelow-iff : (wire other : List ℕ) (name top : List (List ℕ)) (T : Type 0) → AreRest wire name top → IsName top → other ≡ wire_of top → length wire ≤ length other → T ↔ (folded wire ≡ folded other) → T ↔ IsBelow name top
+pub IsBelow-iff : (wire other : List ℕ) (name top : List (List ℕ)) (T : Type 0) → AreRest wire name top → IsName top
+    → other ≡ wire_of top → length wire ≤ length other → T ↔ (folded wire ≡ folded other) → T ↔ IsBelow name top
 IsBelow-iff wire other name top T h t is short test =
     let size : length other ≡ length (wire_of top) = ap length is in
     let whole : length (wire_of (labels_of wire)) ≡ length wire = ap length h.spelt.wire in
@@ -126,7 +136,9 @@ pub compared : (first : Ordering) (a b x y : ℕ) → first ≡ nat_cmp a b → 
 compared first a b x y is a_is b_is = is ∙ ap (λ k. nat_cmp k b) a_is ∙ ap (nat_cmp (folded_byte x)) b_is
 
 -- one turn of the comparison
-pub compare-step : (one other : List ℕ) (at : ℕ) (first : Ordering) → at < length one → at < length other → first ≡ nat_cmp (folded_byte (get_or one at 0)) (folded_byte (get_or other at 0)) → slice_cmp nat_cmp (folded (drop at one)) (folded (drop at other)) ≡ ordering_then first (slice_cmp nat_cmp (folded (drop (at + 1) one)) (folded (drop (at + 1) other)))
+pub compare-step : (one other : List ℕ) (at : ℕ) (first : Ordering) → at < length one → at < length other
+    → first ≡ nat_cmp (folded_byte (get_or one at 0)) (folded_byte (get_or other at 0))
+    → slice_cmp nat_cmp (folded (drop at one)) (folded (drop at other)) ≡ ordering_then first (slice_cmp nat_cmp (folded (drop (at + 1) one)) (folded (drop (at + 1) other)))
 compare-step one other at first below within is =
     rw (add-one)
     (ap (λ l. slice_cmp nat_cmp (folded l) (folded (drop at other))) (drop-cons one at 0 below)
@@ -134,14 +146,17 @@ compare-step one other at first below within is =
     ∙ ap (λ o. ordering_then o (slice_cmp nat_cmp (folded (drop (suc at) one)) (folded (drop (suc at) other)))) (sym is))
 
 -- where one text ends, the lengths decide
-compare-rest : (xs ys : List ℕ) (at n m : ℕ) → n ≡ at + length xs → m ≡ at + length ys → (length xs ≡ 0) ⊎ (length ys ≡ 0) → nat_cmp n m ≡ slice_cmp nat_cmp (folded xs) (folded ys)
+compare-rest : (xs ys : List ℕ) (at n m : ℕ) → n ≡ at + length xs → m ≡ at + length ys
+    → (length xs ≡ 0) ⊎ (length ys ≡ 0) → nat_cmp n m ≡ slice_cmp nat_cmp (folded xs) (folded ys)
 compare-rest [] [] at n m h k one = grind (arith, nat_tests)
 compare-rest [] (y ∷ ys) at n m h k one = grind (arith, nat_tests)
 compare-rest (x ∷ xs) [] at n m h k one = grind (arith, nat_tests)
 compare-rest (x ∷ xs) (y ∷ ys) at n m h k (inl e) = absurd (omega arith)
 compare-rest (x ∷ xs) (y ∷ ys) at n m h k (inr e) = absurd (omega arith)
 
-pub compare-end : (one other : List ℕ) (at : ℕ) → at ≤ length one → at ≤ length other → min (length one) (length other) ≤ at → nat_cmp (length one) (length other) ≡ slice_cmp nat_cmp (folded (drop at one)) (folded (drop at other))
+pub compare-end : (one other : List ℕ) (at : ℕ) → at ≤ length one → at ≤ length other
+    → min (length one) (length other) ≤ at
+    → nat_cmp (length one) (length other) ≡ slice_cmp nat_cmp (folded (drop at one)) (folded (drop at other))
 compare-end one other at h k end =
     let ends : (length (drop at one) ≡ 0) ⊎ (length (drop at other) ≡ 0) = grind (arith, length-drop {A = ℕ}) in
     compare-rest (drop at one) (drop at other) at (length one) (length other) (omega (arith, length-drop at one)) (omega (arith, length-drop at other)) ends

@@ -19,7 +19,8 @@ data Kind (message : List ℕ) (at : ℕ) : Type 0 where
 pub byte_stands : (message : List ℕ) (at : ℕ) → at < length message → StandsAt message at (get_or message at 0 ∷ [])
 byte_stands message at inside = ap (take 1) (from_place message at inside)
 
-pub pointer_there : (message : List ℕ) (at : ℕ) → at + 1 < length message → 192 ≤ get_or message at 0 → PointerAt message at (256 * (get_or message at 0 - 192) + get_or message (at + 1) 0)
+pub pointer_there : (message : List ℕ) (at : ℕ) → at + 1 < length message → 192 ≤ get_or message at 0
+    → PointerAt message at (256 * (get_or message at 0 - 192) + get_or message (at + 1) 0)
 pointer_there message at inside some = (
   get_or message at 0,
   get_or message (at + 1) 0,
@@ -39,13 +40,15 @@ kind_of message at all = by_room (by_size (length message) at)
         cut (inr (inr (get_or message at 0, byte_stands message at inside, some, omega arith)))
     by_pointer inside some (inr room) = pointer (256 * (get_or message at 0 - 192) + get_or message (at + 1) 0) (pointer_there message at room some)
 
-    by_label : at < length message → 0 < get_or message at 0 → get_or message at 0 < 64 → (length message ≤ at + get_or message at 0) ⊎ (at + get_or message at 0 < length message) → Kind message at
+    by_label : at < length message → 0 < get_or message at 0 → get_or message at 0 < 64
+        → (length message ≤ at + get_or message at 0) ⊎ (at + get_or message at 0 < length message) → Kind message at
     by_label inside some most (inl short) =
         cut (inr (inl (get_or message at 0, byte_stands message at inside, some, omega arith, omega arith)))
     by_label inside some most (inr room) =
         label (take (get_or message at 0) (drop (at + 1) message)) (label-there message at (get_or message at 0) all inside refl some most room).0
 
-    by_byte : at < length message → (get_or message at 0 ≤ 0) ⊎ (0 < get_or message at 0) → (64 ≤ get_or message at 0) ⊎ (get_or message at 0 < 64) → (192 ≤ get_or message at 0) ⊎ (get_or message at 0 < 192) → Kind message at
+    by_byte : at < length message → (get_or message at 0 ≤ 0) ⊎ (0 < get_or message at 0) → (64 ≤ get_or message at 0)
+        ⊎ (get_or message at 0 < 64) → (192 ≤ get_or message at 0) ⊎ (get_or message at 0 < 192) → Kind message at
     by_byte inside (inl none) more most =
         let zero_byte : get_or message at 0 ≡ 0 = omega arith in
         root (subst (λ b. StandsAt message at (b ∷ [])) zero_byte (byte_stands message at inside))
@@ -64,12 +67,16 @@ Found message at =
     ((labels : List (List ℕ)) × (next : ℕ) × NameAt message at labels next) ⊎ ((fault : WireFault) × NameBreaks message at fault)
 
 -- a reading goes on to its end in one run, where one knows how to go on at each lesser offset
-run : (message : List ℕ) (at : ℕ) → AllByRecursion IsByte message → (start more : ℕ) → ((offset : ℕ) (labels : List (List ℕ)) → offset < start → Reaches message at labels offset offset → Found message at) → (labels : List (List ℕ)) (here : ℕ) → Reaches message at labels start here → length message ≤ here + more → Found message at
+run : (message : List ℕ) (at : ℕ) → AllByRecursion IsByte message → (start more : ℕ)
+    → ((offset : ℕ) (labels : List (List ℕ)) → offset < start → Reaches message at labels offset offset → Found message at)
+    → (labels : List (List ℕ)) (here : ℕ) → Reaches message at labels start here → length message ≤ here + more
+    → Found message at
 run message at all start zero further labels here r short = inr (Short here, (labels, start, r, inl (omega arith)))
 run message at all start (suc more) further labels here r short =
     on (λ l there fits. run message at all start more further (labels ++ l ∷ []) (here + (length l + 1)) (reaches-label message at labels start here l r there fits) (omega arith)) (kind_of message here all)
   where
-    with_label : (l : List ℕ) → LabelAt message here l → (length (wire_of (labels ++ l ∷ [])) ≤ 255 → Found message at) → (length (wire_of (labels ++ l ∷ [])) ≤ 255) ⊎ (255 < length (wire_of (labels ++ l ∷ []))) → Found message at
+    with_label : (l : List ℕ) → LabelAt message here l → (length (wire_of (labels ++ l ∷ [])) ≤ 255 → Found message at)
+        → (length (wire_of (labels ++ l ∷ [])) ≤ 255) ⊎ (255 < length (wire_of (labels ++ l ∷ []))) → Found message at
     with_label l there again (inl fits) = again fits
     with_label l there again (inr long) = inr (NameTooLong here, (labels, start, r, (l, there, long)))
 
@@ -84,7 +91,8 @@ run message at all start (suc more) further labels here r short =
     on again (bad h) = inr (BadLabelType here, (labels, start, r, h))
     on again (pointer offset h) = with_pointer offset h (by_size start offset)
 
-runs : (message : List ℕ) (at : ℕ) → AllByRecursion IsByte message → (most start : ℕ) (labels : List (List ℕ)) → start ≤ most → Reaches message at labels start start → Found message at
+runs : (message : List ℕ) (at : ℕ) → AllByRecursion IsByte message → (most start : ℕ) (labels : List (List ℕ))
+    → start ≤ most → Reaches message at labels start start → Found message at
 runs message at all zero start labels low r =
     run message at all start (length message) (λ offset l below s. absurd (omega arith)) labels start r (omega arith)
 runs message at all (suc most) start labels low r =

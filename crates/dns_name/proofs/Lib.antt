@@ -2,6 +2,7 @@ pub mod BelowLemmas
 pub mod CodeLemmas
 pub mod FoundLemmas
 pub mod NameLemmas
+pub mod PieceLemmas
 pub mod ReadLemmas
 pub mod RunLemmas
 pub mod SpellLemmas
@@ -9,5 +10,5 @@ pub mod TargetLemmas
 pub mod TextLawLemmas
 pub mod TextLemmas
 pub mod WireLemmas
-pub mod WithinLemmas
 pub mod WithinFoundLemmas
+pub mod WithinLemmas

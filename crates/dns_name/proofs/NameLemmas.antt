@@ -10,7 +10,8 @@ use Rattle.enum_base.specs.Padding.{padded}
 use Rattle.dns_name.specs.Name.{IsByte, IsLabel, label_wire, wire_of, IsName, labels_within, labels_of, IsWire, IsRow, name_within, folded_labels}
 
 -- the labels that the wire form of labels spells, whatever follows it
-pub labels_within-wire : (labels : List (List ℕ)) (more : ℕ) (tail : List ℕ) → AllByRecursion IsLabel labels → length (flat_map label_wire labels) < more → labels_within more (flat_map label_wire labels ++ 0 ∷ tail) ≡ labels
+pub labels_within-wire : (labels : List (List ℕ)) (more : ℕ) (tail : List ℕ) → AllByRecursion IsLabel labels
+    → length (flat_map label_wire labels) < more → labels_within more (flat_map label_wire labels ++ 0 ∷ tail) ≡ labels
 unfolding labels_within
 labels_within-wire labels zero tail each room = absurd (omega arith)
 labels_within-wire [] (suc more) tail each room = refl
@@ -65,7 +66,9 @@ two_parts_rest size n m row all tail sum =
     sym (drop-drop m n row) ∙ (zeros ∙ ap (λ k. replicate k 0) left)
 
 -- a row of zeros with two parts written over its front
-pub two_parts : (size : ℕ) (front back row after : List ℕ) → row ≡ front ++ drop (0 + length front) (replicate size 0) → after ≡ take (length front) row ++ (back ++ drop (length front + length back) row) → after ≡ padded size (front ++ back)
+pub two_parts : (size : ℕ) (front back row after : List ℕ) → row ≡ front ++ drop (0 + length front) (replicate size 0)
+    → after ≡ take (length front) row ++ (back ++ drop (length front + length back) row)
+    → after ≡ padded size (front ++ back)
 two_parts size front back row after row_is after_is =
     let n = length front in
     let m = length back in
@@ -88,7 +91,8 @@ padded-zero size bytes room =
     append_assoc bytes (0 ∷ []) (replicate (size - length (bytes ++ 0 ∷ [])) 0) ∙ ap (λ k. bytes ++ replicate k 0) (sym left)
 
 -- a row for one label
-pub HoldsName-label : (label row : List ℕ) → 0 < length label → length label ≤ 63 → AllByRecursion IsByte label → row ≡ padded 255 (length label ∷ label) → HoldsName (label ∷ []) (length label + 2) row
+pub HoldsName-label : (label row : List ℕ) → 0 < length label → length label ≤ 63 → AllByRecursion IsByte label
+    → row ≡ padded 255 (length label ∷ label) → HoldsName (label ∷ []) (length label + 2) row
 HoldsName-label label row some most bytes cells =
     let spelt : wire_of (label ∷ []) ≡ (length label ∷ label) ++ 0 ∷ [] = ap (λ x. (length label ∷ x) ++ 0 ∷ []) (append-nil label) in
     let size : length (wire_of (label ∷ [])) ≡ length label + 2 = ap length spelt ∙ length-append (length label ∷ label) (0 ∷ []) ∙ omega arith in
@@ -114,9 +118,12 @@ AllByRecursion-append P [] ys p q = q
 AllByRecursion-append P (x ∷ xs) ys p q = (p.0, AllByRecursion-append P xs ys p.1 q)
 
 -- a row for labels and then others
-pub HoldsName-append : (front back : List (List ℕ)) (first second row : List ℕ) → IsName front → IsName back → first ≡ flat_map label_wire front → second ≡ wire_of back → length first + length second ≤ 255 → row ≡ padded 255 (first ++ second) → HoldsName (front ++ back) (length first + length second) row
+pub HoldsName-append : (front back : List (List ℕ)) (first second row : List ℕ) → IsName front → IsName back
+    → first ≡ flat_map label_wire front → second ≡ wire_of back → length first + length second ≤ 255
+    → row ≡ padded 255 (first ++ second) → HoldsName (front ++ back) (length first + length second) row
 HoldsName-append front back first second row f b first_is second_is room cells =
-    let spelt : first ++ second ≡ wire_of (front ++ back) = ap (λ x. x ++ second) first_is ∙ ap (λ x. flat_map label_wire front ++ x) second_is ∙ wire_of-append front back in
+    let spelt : first ++ second ≡ wire_of (front ++ back) = ap (λ x. x ++ second) first_is
+    ∙ ap (λ x. flat_map label_wire front ++ x) second_is ∙ wire_of-append front back in
     let size : length first + length second ≡ length (wire_of (front ++ back)) = sym (length-append first second) ∙ ap length spelt in
     record {
       name = record { each = AllByRecursion-append IsLabel front back f.each b.each; short = omega arith };
@@ -131,7 +138,9 @@ zeros_left size n =
     drop-replicate (0 + n) size 0 ∙ ap (λ k. replicate k 0) left
 
 -- a row of a name, with bytes written from its last byte on
-row_after : (labels : List (List ℕ)) (len : ℕ) (row bytes after : List ℕ) → HoldsName labels len row → after ≡ take (len - 1) row ++ (bytes ++ drop (len - 1 + length bytes) row) → after ≡ padded 255 (flat_map label_wire labels ++ bytes)
+row_after : (labels : List (List ℕ)) (len : ℕ) (row bytes after : List ℕ) → HoldsName labels len row
+    → after ≡ take (len - 1) row ++ (bytes ++ drop (len - 1 + length bytes) row)
+    → after ≡ padded 255 (flat_map label_wire labels ++ bytes)
 row_after labels len row bytes after h is =
     let front = flat_map label_wire labels in
     let short = h.name.short in
@@ -145,14 +154,21 @@ front_size : (labels : List (List ℕ)) (len : ℕ) (row : List ℕ) → HoldsNa
 front_size labels len row h = omega (arith, h.size, length-append (flat_map label_wire labels) (0 ∷ []))
 
 -- a row to which a name was appended
-pub HoldsName-appended : (front back : List (List ℕ)) (len : ℕ) (row second after : List ℕ) → HoldsName front len row → IsName back → second ≡ wire_of back → len - 1 + length second ≤ 255 → after ≡ take (len - 1) row ++ (second ++ drop (len - 1 + length second) row) → HoldsName (front ++ back) (len - 1 + length second) after
+pub HoldsName-appended : (front back : List (List ℕ)) (len : ℕ) (row second after : List ℕ) → HoldsName front len row
+    → IsName back → second ≡ wire_of back → len - 1 + length second ≤ 255
+    → after ≡ take (len - 1) row ++ (second ++ drop (len - 1 + length second) row)
+    → HoldsName (front ++ back) (len - 1 + length second) after
 HoldsName-appended front back len row second after h b second_is room is =
     let size = front_size front len row h in
     subst (λ n. HoldsName (front ++ back) (n + length second) after) (sym size)
     (HoldsName-append front back (flat_map label_wire front) second after h.name b refl second_is (omega arith) (row_after front len row second after h is))
 
 -- a row to which a label was appended
-pub HoldsName-appended_label : (front : List (List ℕ)) (label : List ℕ) (len : ℕ) (row after : List ℕ) → HoldsName front len row → 0 < length label → length label ≤ 63 → AllByRecursion IsByte label → len - 1 + length label + 2 ≤ 255 → after ≡ take (len - 1) row ++ (label_wire label ++ drop (len - 1 + length label + 1) row) → HoldsName (front ++ label ∷ []) (len - 1 + length label + 2) after
+pub HoldsName-appended_label : (front : List (List ℕ)) (label : List ℕ) (len : ℕ) (row after : List ℕ)
+    → HoldsName front len row → 0 < length label → length label ≤ 63 → AllByRecursion IsByte label
+    → len - 1 + length label + 2 ≤ 255
+    → after ≡ take (len - 1) row ++ (label_wire label ++ drop (len - 1 + length label + 1) row)
+    → HoldsName (front ++ label ∷ []) (len - 1 + length label + 2) after
 HoldsName-appended_label front label len row after h some most bytes room is =
     let own = HoldsName-label label (padded 255 (label_wire label)) some most bytes refl in
     let whole = flat_map label_wire front in
@@ -160,7 +176,8 @@ HoldsName-appended_label front label len row after h some most bytes room is =
     let step : len - 1 + length label + 1 ≡ len - 1 + length (label_wire label) = omega arith in
     let cells = row_after front len row (label_wire label) after h (is ∙ ap (λ k. take (len - 1) row ++ (label_wire label ++ drop k row)) step) in
     let spelt : wire_of (label ∷ []) ≡ label_wire label ++ 0 ∷ [] = ap (λ x. (length label ∷ x) ++ 0 ∷ []) (append-nil label) in
-    let joined : (whole ++ label_wire label) ++ 0 ∷ [] ≡ whole ++ wire_of (label ∷ []) = append_assoc whole (label_wire label) (0 ∷ []) ∙ ap (λ x. whole ++ x) (sym spelt) in
+    let joined : (whole ++ label_wire label) ++ 0 ∷ [] ≡ whole
+    ++ wire_of (label ∷ []) = append_assoc whole (label_wire label) (0 ∷ []) ∙ ap (λ x. whole ++ x) (sym spelt) in
     let most_bytes : length (whole ++ label_wire label) < 255 = omega (arith, length-append whole (label_wire label)) in
     let size = own.size in
     subst (λ n. HoldsName (front ++ label ∷ []) n after) (omega arith)
@@ -220,13 +237,15 @@ folded-zeros (suc k) = ap (λ x. 0 ∷ x) (folded-zeros k)
 
 pub IsName-folded : (labels : List (List ℕ)) → IsName labels → IsName (folded_labels labels)
 IsName-folded labels h =
-    let same : length (wire_of (folded_labels labels)) ≡ length (wire_of labels) = ap length (sym (folded-wire_of labels h.each)) ∙ length-map (wire_of labels) folded_byte in
+    let same : length (wire_of (folded_labels labels)) ≡ length (wire_of labels) = ap length (sym (folded-wire_of labels h.each))
+    ∙ length-map (wire_of labels) folded_byte in
     let short = h.short in
     record { each = AreLabels-folded labels h.each; short = omega arith }
 
 pub HoldsName-folded : (labels : List (List ℕ)) (len : ℕ) (row : List ℕ) → HoldsName labels len row → HoldsName (folded_labels labels) len (folded row)
 HoldsName-folded labels len row h =
-    let same : length (wire_of labels) ≡ length (wire_of (folded_labels labels)) = sym (length-map (wire_of labels) folded_byte) ∙ ap length (folded-wire_of labels h.name.each) in
+    let same : length (wire_of labels) ≡ length (wire_of (folded_labels labels)) = sym (length-map (wire_of labels) folded_byte)
+    ∙ ap length (folded-wire_of labels h.name.each) in
     record {
       name = IsName-folded labels h.name;
       size = h.size ∙ same;
@@ -252,7 +271,8 @@ Splits-wire_of : (label : List ℕ) (labels : List (List ℕ)) → IsName (label
 Splits-wire_of label labels h =
     let more = flat_map label_wire labels in
     let joined : label ++ more ++ 0 ∷ [] ≡ label ++ wire_of labels = append_assoc label more (0 ∷ []) in
-    let all : length (wire_of (label ∷ labels)) ≡ suc (length label + length (wire_of labels)) = ap (λ x. suc (length x)) joined ∙ ap suc (length-append label (wire_of labels)) in
+    let all : length (wire_of (label ∷ labels)) ≡ suc (length label + length (wire_of labels)) = ap (λ x. suc (length x)) joined
+    ∙ ap suc (length-append label (wire_of labels)) in
     let short = h.short in
     let own : IsName labels = record { each = h.each.1; short = omega arith } in
     record {
@@ -268,7 +288,8 @@ Splits-wire_of label labels h =
       );
     }
 
-Splits-labels : (labels : List (List ℕ)) (wire : List ℕ) → labels_of wire ≡ labels → IsWire wire → 1 < length wire → (label : List ℕ) × (rest : List ℕ) × Splits wire label rest
+Splits-labels : (labels : List (List ℕ)) (wire : List ℕ) → labels_of wire ≡ labels → IsWire wire → 1 < length wire
+    → (label : List ℕ) × (rest : List ℕ) × Splits wire label rest
 Splits-labels [] wire is h more =
     let one : length wire ≡ 1 = ap length (sym h.wire ∙ ap wire_of is) in
     absurd (omega arith)
@@ -286,7 +307,8 @@ Splits-first wire h more =
     subst P s.2.cut.0 (subst Q s.2.cut.1 s.2)
 
 -- the same cut, as slices of the code
-pub Splits-slices : (wire : List ℕ) → IsWire wire → 1 < length wire → Splits wire (take (get_or wire 0 0 + 1 - 1) (drop 1 wire)) (take (length wire - (get_or wire 0 0 + 1)) (drop (get_or wire 0 0 + 1) wire))
+pub Splits-slices : (wire : List ℕ) → IsWire wire → 1 < length wire
+    → Splits wire (take (get_or wire 0 0 + 1 - 1) (drop 1 wire)) (take (length wire - (get_or wire 0 0 + 1)) (drop (get_or wire 0 0 + 1) wire))
 Splits-slices wire h more =
     let size = get_or wire 0 0 in
     let same : size ≡ size + 1 - 1 = omega arith in
@@ -308,9 +330,12 @@ folded_all row items at size over is =
     is ∙ ap (λ x. map folded_byte x ++ drop at row) (take_all at row past) ∙ ap (λ x. folded row ++ x) (drop_all at row past) ∙ append-nil (folded row)
 
 -- one turn of that loop
-pub folded_step : (row items : List ℕ) (i byte : ℕ) → length row ≡ 255 → i < 255 → items ≡ map folded_byte (take i row) ++ drop i row → byte ≡ folded_byte (get_or items i 0) → set items i byte ≡ map folded_byte (take (i + 1) row) ++ drop (i + 1) row
+pub folded_step : (row items : List ℕ) (i byte : ℕ) → length row ≡ 255 → i < 255
+    → items ≡ map folded_byte (take i row) ++ drop i row → byte ≡ folded_byte (get_or items i 0)
+    → set items i byte ≡ map folded_byte (take (i + 1) row) ++ drop (i + 1) row
 folded_step row items i byte size below is now =
     let inside : i < length row = omega arith in
-    let same : length items ≡ length row = ap length is ∙ length-append (map folded_byte (take i row)) (drop i row) ∙ omega (arith, length-map (take i row) folded_byte, length-take i row, length-drop i row) in
+    let same : length items ≡ length row = ap length is ∙ length-append (map folded_byte (take i row)) (drop i row)
+    ∙ omega (arith, length-map (take i row) folded_byte, length-take i row, length-drop i row) in
     let here : i < length items = omega arith in
     ap (set items i) now ∙ map_over_more folded_byte row items i (get_or items i 0) inside is (get_or_default items i 0 (get_or items i 0) here)

@@ -74,7 +74,9 @@ pub pointer_stands : (message : List ℕ) (at offset : ℕ) → PointerAt messag
 pointer_stands message at offset (high, low, h, m, is) = (high, m, stands message at high (low ∷ []) h)
 
 -- a byte that begins neither a label that lies in the message nor a pointer stops it
-stop_by : (message : List ℕ) (labels : List (List ℕ)) (start here : ℕ) → ((n : ℕ) → Stands message here n (suc n) → 0 < n → n ≤ 63 → ⊥) → ((high : ℕ) → Stands message here high 2 → 192 ≤ high → ⊥) → IsStop message labels start here
+stop_by : (message : List ℕ) (labels : List (List ℕ)) (start here : ℕ)
+    → ((n : ℕ) → Stands message here n (suc n) → 0 < n → n ≤ 63 → ⊥)
+    → ((high : ℕ) → Stands message here high 2 → 192 ≤ high → ⊥) → IsStop message labels start here
 stop_by message labels start here no_label no_pointer = record {
   label = λ l h fits. no_label (length l) (label_stands message here l h) h.1.some h.1.most;
   pointer = λ o h below. let p = pointer_stands message here o h in no_pointer p.0 p.2 p.1;
@@ -122,7 +124,8 @@ bad_ends message labels start here (byte, h, some, most) =
       told = verdict-bad here (get_or message here 0) (length message) byte (omega arith) is some most;
     }
 
-pub forward_ends : (message : List ℕ) (labels : List (List ℕ)) (start here offset : ℕ) → PointerAt message here offset → start ≤ offset → Ends message labels start here (Some (ForwardPointer here))
+pub forward_ends : (message : List ℕ) (labels : List (List ℕ)) (start here offset : ℕ) → PointerAt message here offset
+    → start ≤ offset → Ends message labels start here (Some (ForwardPointer here))
 forward_ends message labels start here offset h forward =
     let p = pointer_stands message here offset h in
     let some = p.1 in
@@ -136,7 +139,9 @@ forward_ends message labels start here offset h forward =
       told = verdict-forward here (get_or message here 0) (length message) p.0 (omega arith) is some;
     }
 
-pub long_ends : (message : List ℕ) (labels : List (List ℕ)) (start here : ℕ) (label : List ℕ) → LabelAt message here label → 255 < length (wire_of (labels ++ label ∷ [])) → Ends message labels start here (Some (NameTooLong here))
+pub long_ends : (message : List ℕ) (labels : List (List ℕ)) (start here : ℕ) (label : List ℕ)
+    → LabelAt message here label → 255 < length (wire_of (labels ++ label ∷ []))
+    → Ends message labels start here (Some (NameTooLong here))
 long_ends message labels start here label h long =
     let s = label_stands message here label h in
     let is = s.is in
@@ -197,7 +202,8 @@ pub record SameReading {message : List ℕ} {at : ℕ} {why why' : Option WireFa
   pub start : one.start ≡ two.start
   pub here : one.here ≡ two.here
 
-pub same_reading : (message : List ℕ) (at : ℕ) (why why' : Option WireFault) (one : Reading message at why) (two : Reading message at why') → SameReading one two
+pub same_reading : (message : List ℕ) (at : ℕ) (why why' : Option WireFault) (one : Reading message at why) (two : Reading message at why')
+    → SameReading one two
 same_reading message at why why' one two =
     let P : List (List ℕ) → Type 0 = λ l. length (wire_of l) ≤ 255 in
     let Q : List (List ℕ) → Type 0 = λ l. IsStop message l one.start one.here in
@@ -206,7 +212,9 @@ same_reading message at why why' one two =
     record { fields = way.0; start = way.1; here = way.2 }
 
 -- two cuts that are reached are reached in one run
-pub same_start : (message : List ℕ) (at place place' start start' : ℕ) (one two : List (List ℕ)) → Reaches message at one start place → IsCut message place → Reaches message at two start' place' → IsCut message place' → start ≡ start'
+pub same_start : (message : List ℕ) (at place place' start start' : ℕ) (one two : List (List ℕ))
+    → Reaches message at one start place → IsCut message place → Reaches message at two start' place'
+    → IsCut message place' → start ≡ start'
 same_start message at place place' start start' one two far cut far' cut' =
     let first : Reading message at (Some (Short place)) = record { labels = one; start = start; here = place; far = far; ends = cut_ends message one start place cut } in
     let second : Reading message at (Some (Short place')) = record { labels = two; start = start'; here = place'; far = far'; ends = cut_ends message two start' place' cut' } in
@@ -221,11 +229,13 @@ pub one_fault : (message : List ℕ) (at : ℕ) (one two : WireFault) → NameBr
 one_fault message at one two h k =
     let e = one_why message at (Some one) (Some two) (of_fault message at one h) (of_fault message at two k) in cc
 
-pub not_both : (message : List ℕ) (at : ℕ) (labels : List (List ℕ)) (next : ℕ) (fault : WireFault) → NameAt message at labels next → NameBreaks message at fault → ⊥
+pub not_both : (message : List ℕ) (at : ℕ) (labels : List (List ℕ)) (next : ℕ) (fault : WireFault)
+    → NameAt message at labels next → NameBreaks message at fault → ⊥
 not_both message at labels next fault h k =
     let e = one_why message at None (Some fault) (of_name message at labels next h) (of_fault message at fault k) in cc
 
-pub one_name : (message : List ℕ) (at : ℕ) (one two : List (List ℕ)) (next next' : ℕ) → NameAt message at one next → NameAt message at two next' → (one ≡ two) × (next ≡ next')
+pub one_name : (message : List ℕ) (at : ℕ) (one two : List (List ℕ)) (next next' : ℕ) → NameAt message at one next
+    → NameAt message at two next' → (one ≡ two) × (next ≡ next')
 unfolding of_name
 one_name message at one two next next' h k =
     let same = same_reading message at None None (of_name message at one next h) (of_name message at two next' k) in
@@ -236,13 +246,15 @@ one_name message at one two next next' h k =
     )
 
 -- one field more
-pub leads-label : (message : List ℕ) (s a : ℕ) (fs : List Field) (t h : ℕ) (label : List ℕ) → Leads message s a fs t h → LabelAt message h label → Leads message s a (fs ++ by_label label ∷ []) t (h + (length label + 1))
+pub leads-label : (message : List ℕ) (s a : ℕ) (fs : List Field) (t h : ℕ) (label : List ℕ) → Leads message s a fs t h
+    → LabelAt message h label → Leads message s a (fs ++ by_label label ∷ []) t (h + (length label + 1))
 leads-label message s a [] t h label f l = (subst (λ x. LabelAt message x label) (sym f.1) l, (f.0, ap (λ x. x + (length label + 1)) f.1))
 leads-label message s a (by_label one ∷ fs) t h label f l =
     (f.0, leads-label message s (a + (length one + 1)) fs t h label f.1 l)
 leads-label message s a (by_pointer o ∷ fs) t h label f l = (f.0, f.1, leads-label message o o fs t h label f.2 l)
 
-pub leads-pointer : (message : List ℕ) (s a : ℕ) (fs : List Field) (t h offset : ℕ) → Leads message s a fs t h → PointerAt message h offset → offset < t → Leads message s a (fs ++ by_pointer offset ∷ []) offset offset
+pub leads-pointer : (message : List ℕ) (s a : ℕ) (fs : List Field) (t h offset : ℕ) → Leads message s a fs t h
+    → PointerAt message h offset → offset < t → Leads message s a (fs ++ by_pointer offset ∷ []) offset offset
 leads-pointer message s a [] t h offset f p below =
     (subst (λ x. PointerAt message x offset) (sym f.1) p, let e = f.0 in omega arith, (refl, refl))
 leads-pointer message s a (by_label one ∷ fs) t h offset f p below =
@@ -264,7 +276,8 @@ after-label a [] label = refl
 after-label a (by_label one ∷ fs) label = after-label (a + (length one + 1)) fs label
 after-label a (by_pointer o ∷ fs) label = refl
 
-pub after-pointer : (message : List ℕ) (s a : ℕ) (fs : List Field) (t h offset : ℕ) → Leads message s a fs t h → after_pointer a (fs ++ by_pointer offset ∷ []) ≡ Some (unwrap_or (after_pointer a fs) (h + 2))
+pub after-pointer : (message : List ℕ) (s a : ℕ) (fs : List Field) (t h offset : ℕ) → Leads message s a fs t h
+    → after_pointer a (fs ++ by_pointer offset ∷ []) ≡ Some (unwrap_or (after_pointer a fs) (h + 2))
 after-pointer message s a [] t h offset f = ap (λ x. Some (x + 2)) f.1
 after-pointer message s a (by_label one ∷ fs) t h offset f = after-pointer message s (a + (length one + 1)) fs t h offset f.1
 after-pointer message s a (by_pointer o ∷ fs) t h offset f = refl
@@ -273,7 +286,9 @@ after-pointer message s a (by_pointer o ∷ fs) t h offset f = refl
 unfoldable pub reaches-start : (message : List ℕ) (at : ℕ) → Reaches message at [] at at
 reaches-start message at = record { fields = []; leads = (refl, refl); spelt = refl; short = omega arith }
 
-unfoldable pub reaches-label : (message : List ℕ) (at : ℕ) (labels : List (List ℕ)) (start here : ℕ) (label : List ℕ) → Reaches message at labels start here → LabelAt message here label → length (wire_of (labels ++ label ∷ [])) ≤ 255 → Reaches message at (labels ++ label ∷ []) start (here + (length label + 1))
+unfoldable pub reaches-label : (message : List ℕ) (at : ℕ) (labels : List (List ℕ)) (start here : ℕ) (label : List ℕ)
+    → Reaches message at labels start here → LabelAt message here label → length (wire_of (labels ++ label ∷ [])) ≤ 255
+    → Reaches message at (labels ++ label ∷ []) start (here + (length label + 1))
 reaches-label message at labels start here label r l fits = record {
   fields = r.fields ++ by_label label ∷ [];
   leads = leads-label message at at r.fields start here label r.leads l;
@@ -281,7 +296,9 @@ reaches-label message at labels start here label r l fits = record {
   short = fits;
 }
 
-unfoldable pub reaches-pointer : (message : List ℕ) (at : ℕ) (labels : List (List ℕ)) (start here offset : ℕ) → Reaches message at labels start here → PointerAt message here offset → offset < start → Reaches message at labels offset offset
+unfoldable pub reaches-pointer : (message : List ℕ) (at : ℕ) (labels : List (List ℕ)) (start here offset : ℕ)
+    → Reaches message at labels start here → PointerAt message here offset → offset < start
+    → Reaches message at labels offset offset
 reaches-pointer message at labels start here offset r p below = record {
   fields = r.fields ++ by_pointer offset ∷ [];
   leads = leads-pointer message at at r.fields start here offset r.leads p below;
@@ -289,7 +306,8 @@ reaches-pointer message at labels start here offset r p below = record {
   short = r.short;
 }
 
-pub name_reached : (message : List ℕ) (at : ℕ) (labels : List (List ℕ)) (start here : ℕ) (r : Reaches message at labels start here) → RootAt message here → NameAt message at labels (unwrap_or (after_pointer at r.fields) (here + 1))
+pub name_reached : (message : List ℕ) (at : ℕ) (labels : List (List ℕ)) (start here : ℕ) (r : Reaches message at labels start here)
+    → RootAt message here → NameAt message at labels (unwrap_or (after_pointer at r.fields) (here + 1))
 name_reached message at labels start here r root = record {
   fields = r.fields;
   start = start;

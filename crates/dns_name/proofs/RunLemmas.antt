@@ -23,11 +23,13 @@ pub running-start : (bytes : List ℕ) (at : ℕ) → at ≤ length bytes → Is
 running-start bytes at inside = record { labels = []; far = reaches-start bytes at; size = omega arith; inside = inside }
 
 -- the size of the labels with one more
-size-more : (labels : List (List ℕ)) (label : List ℕ) → length (flat_map label_wire (labels ++ label ∷ [])) ≡ length (flat_map label_wire labels) + suc (length label)
+size-more : (labels : List (List ℕ)) (label : List ℕ)
+    → length (flat_map label_wire (labels ++ label ∷ [])) ≡ length (flat_map label_wire labels) + suc (length label)
 size-more labels label =
     ap length (sym (flat_map-last labels label)) ∙ length-append (flat_map label_wire labels) (label_wire label)
 
-pub running-step : (bytes : List ℕ) (at here size : ℕ) → IsRunning bytes at here → IsField bytes here (Ok (Label size)) → here - at + size + 2 ≤ 255 → IsRunning bytes at (here + (size + 1))
+pub running-step : (bytes : List ℕ) (at here size : ℕ) → IsRunning bytes at here → IsField bytes here (Ok (Label size))
+    → here - at + size + 2 ≤ 255 → IsRunning bytes at (here + (size + 1))
 running-step bytes at here size r (there, whole) fits =
     let label = label_bytes bytes here size in
     let more = size-more r.labels label in
@@ -41,7 +43,8 @@ running-step bytes at here size r (there, whole) fits =
       inside = let s = (label_stands bytes here label there).inside in omega arith;
     })
 
-pub running-long : (bytes : List ℕ) (at here size : ℕ) → IsRunning bytes at here → IsField bytes here (Ok (Label size)) → 255 < here - at + size + 2 → (place : ℕ) → ¬ RunIsCut bytes at place
+pub running-long : (bytes : List ℕ) (at here size : ℕ) → IsRunning bytes at here → IsField bytes here (Ok (Label size))
+    → 255 < here - at + size + 2 → (place : ℕ) → ¬ RunIsCut bytes at place
 running-long bytes at here size r (there, whole) long =
     let label = label_bytes bytes here size in
     let more = size-more r.labels label in
@@ -61,7 +64,9 @@ running-bad : (bytes : List ℕ) (at here : ℕ) → IsRunning bytes at here →
 running-bad bytes at here r bad =
     not_cut bytes at r.labels here (Some (BadLabelType here)) (run_of bytes at r.labels here r.far) (bad_ends bytes r.labels 0 here bad) (λ place e. absurd (cc))
 
-pub running-fault : (bytes : List ℕ) (at here : ℕ) (fault : WireFault) (place : Option ℕ) → IsRunning bytes at here → IsField bytes here (Err fault) → place ≡ cut_place fault → MatchOption place ((p : ℕ) → ¬ RunIsCut bytes at p) (RunIsCut bytes at)
+pub running-fault : (bytes : List ℕ) (at here : ℕ) (fault : WireFault) (place : Option ℕ) → IsRunning bytes at here
+    → IsField bytes here (Err fault) → place ≡ cut_place fault
+    → MatchOption place ((p : ℕ) → ¬ RunIsCut bytes at p) (RunIsCut bytes at)
 running-fault bytes at here (Short p) place r f is =
     let P : Option ℕ → Type 0 = λ o. MatchOption o ((q : ℕ) → ¬ RunIsCut bytes at q) (RunIsCut bytes at) in
     subst P (sym is) (r.labels, subst (λ h. Reaches bytes at r.labels at h) (sym f.0) r.far, subst (λ h. IsCut bytes h) (sym f.0) f.1)

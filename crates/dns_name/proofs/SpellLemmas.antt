@@ -1,4 +1,4 @@
-use Rattle.std.proofs.Common.{◌≡◌, ◌≢◌, ℕ, ◌+◌, ◌/◌, ◌%◌, ◌<◌, ◌≤◌, List, [], ◌∷◌, ◌++◌, length, drop, Bool, true, false, ◌&&◌, nat_le, bytes_eq, IsTrue, IsFalse, Option, Some, Result, Ok, Err, refl, sym, ◌∙◌, ap, subst, inl, inr, arith, append_assoc, length-append}
+use Rattle.std.proofs.Common.{◌≡◌, ◌≢◌, ℕ, ◌+◌, ◌/◌, ◌%◌, ◌<◌, ◌≤◌, List, [], ◌∷◌, ◌++◌, length, drop, Bool, true, false, ◌&&◌, nat_le, bytes_eq, IsTrue, IsFalse, Option, Some, None, Result, Ok, Err, refl, sym, ◌∙◌, ap, subst, inl, inr, arith, append_assoc, length-append}
 use Rattle.std.proofs.lemmas.List.{append-nil}
 use Rattle.std.proofs.lemmas.Bool.{cases_Bool, cond-true, cond-false, cond_both, ne_eqb, eq-eqb, le-leb, leb-true, false≢true, and_from, and_parts, cases_lt}
 use Rattle.std.proofs.lemmas.Bool.Decides.{nat_tests}
@@ -6,8 +6,9 @@ use Rattle.std.proofs.lemmas.Slice.Eq.{bytes_eq-Decides}
 use Rattle.std.specs.Char.{is_ascii_digit}
 use Rattle.std.specs.List.{AllByRecursion, flat_map}
 use Rattle.dns_name.specs.Name.{IsByte, IsLabel, IsName, label_wire, wire_of, name_within}
-use Rattle.dns_name.specs.Text.{dot, backslash, decimal_of, SpellsByte, SpellsBytes, SpellsDotted, IsAbsolute, IsRelative, HasEmptyLabel, HasLongLabel, HasBadEscape, BeginsIllFormed, byte_text, label_text, text_of, is_special, is_visible}
-use Rattle.dns_name.specs.Reading.{decimal_piece, escape_piece, first_piece, more_of, pieces_after, pieces, with_label, reading_from, reading_of, fitting, finished, name_of}
+use Rattle.enum_base.specs.Escapes.{backslash, decimal_of, decimal_byte}
+use Rattle.dns_name.specs.Text.{dot, SpellsByte, SpellsBytes, SpellsDotted, IsAbsolute, IsRelative, HasEmptyLabel, HasLongLabel, HasBadEscape, BeginsIllFormed, byte_text, label_text, text_of, is_special, is_visible}
+use Rattle.dns_name.specs.Reading.{piece_of, escape_piece, first_piece, more_of, pieces_after, pieces, with_label, reading_from, reading_of, fitting, finished, name_of}
 use Rattle.dns_name.specs.declared.piece.Piece.{Piece}
 use Rattle.dns_name.specs.declared.piece.Piece.TheVariants.{Dot, Byte, Broken}
 use Rattle.dns_name.specs.declared.fault.NameFault.{NameFault}
@@ -36,7 +37,7 @@ GivesPiece-plain byte h k =
 GivesPiece-quoted : (byte : ℕ) → IsFalse (is_ascii_digit byte) → GivesPiece (backslash ∷ byte ∷ []) byte
 GivesPiece-quoted byte h =
     let first : (rest : List ℕ) → first_piece (backslash ∷ byte ∷ rest) ≡ Byte byte 1 =
-    λ rest. cond-false _ (decimal_piece byte rest) (Byte byte 1) h in
+    λ rest. ap piece_of (cond-false _ (decimal_byte byte rest) (Some (byte, 1)) h) in
     record {
       more = 1;
       size = refl;
@@ -44,11 +45,16 @@ GivesPiece-quoted byte h =
       piece = λ rest. pieces-cons backslash (byte ∷ rest) ∙ ap (λ p. p ∷ pieces (drop (more_of p) (byte ∷ rest))) (first rest);
     }
 
-GivesPiece-decimal : (x y z : ℕ) → IsTrue (is_ascii_digit x) → IsTrue (is_ascii_digit y) → IsTrue (is_ascii_digit z) → decimal_of x y z ≤ 255 → GivesPiece (backslash ∷ x ∷ y ∷ z ∷ []) (decimal_of x y z)
+GivesPiece-decimal : (x y z : ℕ) → IsTrue (is_ascii_digit x) → IsTrue (is_ascii_digit y) → IsTrue (is_ascii_digit z)
+    → decimal_of x y z ≤ 255 → GivesPiece (backslash ∷ x ∷ y ∷ z ∷ []) (decimal_of x y z)
 GivesPiece-decimal x y z hx hy hz small =
     let value = decimal_of x y z in
     let first : (rest : List ℕ) → first_piece (backslash ∷ x ∷ y ∷ z ∷ rest) ≡ Byte value 3 =
-    λ rest. cond-true _ (decimal_piece x (y ∷ z ∷ rest)) (Byte x 1) hx ∙ cond-true _ (Byte value 3) Broken (and_from _ _ (and_from _ _ hy hz) (le-leb value 255 small)) in
+    λ rest.
+    ap piece_of (
+    cond-true _ (decimal_byte x (y ∷ z ∷ rest)) (Some (x, 1)) hx
+    ∙ cond-true _ (Some (value, 3)) None (and_from _ _ (and_from _ _ hy hz) (le-leb value 255 small))
+    ) in
     record {
       more = 3;
       size = refl;
@@ -68,16 +74,22 @@ SpellsByte-piece text byte (inr (inr h)) =
     subst P (sym h.3) (subst Q (sym h.7) (GivesPiece-decimal h.0 h.1 h.2 h.4 h.5 h.6 small))
 
 -- a byte of a label is read
-read-byte_cons : (labels : Option (List (List ℕ))) (start : ℕ) (label : List ℕ) (at value more : ℕ) (rest : List Piece) → length label ≤ 62 → reading_from labels start label at (Byte value more ∷ rest) ≡ reading_from labels start (label ++ value ∷ []) (at + (more + 1)) rest
+read-byte_cons : (labels : Option (List (List ℕ))) (start : ℕ) (label : List ℕ) (at value more : ℕ) (rest : List Piece)
+    → length label ≤ 62
+    → reading_from labels start label at (Byte value more ∷ rest) ≡ reading_from labels start (label ++ value ∷ []) (at + (more + 1)) rest
 unfolding reading_from
 read-byte_cons labels start label at value more rest room = cond-false _ (Err (LabelTooLong start)) _ (ne_eqb (length label) 63 (λ e. omega (arith, e)))
 
-read-full_cons : (labels : Option (List (List ℕ))) (start : ℕ) (label : List ℕ) (at value more : ℕ) (rest : List Piece) → length label ≡ 63 → reading_from labels start label at (Byte value more ∷ rest) ≡ Err (LabelTooLong start)
+read-full_cons : (labels : Option (List (List ℕ))) (start : ℕ) (label : List ℕ) (at value more : ℕ) (rest : List Piece)
+    → length label ≡ 63 → reading_from labels start label at (Byte value more ∷ rest) ≡ Err (LabelTooLong start)
 unfolding reading_from
 read-full_cons labels start label at value more rest full = cond-true _ (Err (LabelTooLong start)) _ (eq-eqb (length label) 63 full)
 
 -- bytes of a label are read
-pub read-bytes : (bytes : List ℕ) (text : List ℕ) → SpellsBytes text bytes → (labels : Option (List (List ℕ))) (start : ℕ) (label : List ℕ) (at : ℕ) (rest : List ℕ) → length label + length bytes ≤ 63 → reading_from labels start label at (pieces (text ++ rest)) ≡ reading_from labels start (label ++ bytes) (at + length text) (pieces rest)
+pub read-bytes : (bytes : List ℕ) (text : List ℕ) → SpellsBytes text bytes
+    → (labels : Option (List (List ℕ))) (start : ℕ) (label : List ℕ) (at : ℕ) (rest : List ℕ)
+    → length label + length bytes ≤ 63
+    → reading_from labels start label at (pieces (text ++ rest)) ≡ reading_from labels start (label ++ bytes) (at + length text) (pieces rest)
 read-bytes [] text h labels start label at rest room =
     let place : at ≡ at + length text = omega (arith, ap length h) in
     ap (λ t. reading_from labels start label at (pieces (t ++ rest))) h
@@ -98,7 +110,10 @@ read-bytes (byte ∷ bytes) text h labels start label at rest room =
     ∙ ap (λ n. reading_from labels start (label ++ byte ∷ bytes) n (pieces rest)) place
 
 -- more bytes than a label may have
-pub read-long : (bytes : List ℕ) (text : List ℕ) → SpellsBytes text bytes → (labels : Option (List (List ℕ))) (start : ℕ) (label : List ℕ) (at : ℕ) (rest : List ℕ) → length label ≤ 63 → length label + length bytes ≡ 64 → reading_from labels start label at (pieces (text ++ rest)) ≡ Err (LabelTooLong start)
+pub read-long : (bytes : List ℕ) (text : List ℕ) → SpellsBytes text bytes
+    → (labels : Option (List (List ℕ))) (start : ℕ) (label : List ℕ) (at : ℕ) (rest : List ℕ) → length label ≤ 63
+    → length label + length bytes ≡ 64
+    → reading_from labels start label at (pieces (text ++ rest)) ≡ Err (LabelTooLong start)
 read-long [] text h labels start label at rest room sum = absurd (omega arith)
 read-long (byte ∷ bytes) text h labels start label at rest room sum =
     let p = SpellsByte-piece h.0 byte h.3 in
@@ -137,7 +152,9 @@ with_labels-within front (label ∷ labels) =
     ∙ ap name_within (append_assoc front (label ∷ []) labels)
 
 -- whole labels are read
-read-dotted : (labels : List (List ℕ)) (text : List ℕ) → SpellsDotted text labels → (so_far : Option (List (List ℕ))) (at : ℕ) (rest : List ℕ) → reading_from so_far at [] at (pieces (text ++ rest)) ≡ reading_from (with_labels so_far labels) (at + length text) [] (at + length text) (pieces rest)
+read-dotted : (labels : List (List ℕ)) (text : List ℕ) → SpellsDotted text labels
+    → (so_far : Option (List (List ℕ))) (at : ℕ) (rest : List ℕ)
+    → reading_from so_far at [] at (pieces (text ++ rest)) ≡ reading_from (with_labels so_far labels) (at + length text) [] (at + length text) (pieces rest)
 read-dotted [] text h so_far at rest =
     let place : at ≡ at + length text = omega (arith, ap length h) in
     ap (λ t. reading_from so_far at [] at (pieces (t ++ rest))) h ∙ ap (λ n. reading_from so_far n [] n (pieces rest)) place
@@ -155,7 +172,8 @@ read-dotted (label ∷ labels) text h so_far at rest =
     ∙ ap (λ k. reading_from (with_labels (with_label so_far label) labels) k [] k (pieces rest)) place
 
 -- whole labels at the front of a text are read
-pub read-front : (labels : List (List ℕ)) (front rest : List ℕ) → SpellsDotted front labels → reading_from (Some []) 0 [] 0 (pieces (front ++ rest)) ≡ reading_from (name_within labels) (length front) [] (length front) (pieces rest)
+pub read-front : (labels : List (List ℕ)) (front rest : List ℕ) → SpellsDotted front labels
+    → reading_from (Some []) 0 [] 0 (pieces (front ++ rest)) ≡ reading_from (name_within labels) (length front) [] (length front) (pieces rest)
 read-front labels front rest h =
     let none : 0 + length front ≡ length front = omega arith in
     read-dotted labels front h (Some []) 0 rest
@@ -163,7 +181,8 @@ read-front labels front rest h =
     ∙ ap (λ n. reading_from (name_within labels) n [] n (pieces rest)) none
 
 -- what is read of a text, unless it is an empty label at 0
-pub reading_of-from : (text : List ℕ) (answer : Result (Option (List (List ℕ)) × Bool) NameFault) → reading_from (Some []) 0 [] 0 (pieces text) ≡ answer → answer ≢ Err (EmptyLabel 0) → reading_of text ≡ answer
+pub reading_of-from : (text : List ℕ) (answer : Result (Option (List (List ℕ)) × Bool) NameFault)
+    → reading_from (Some []) 0 [] 0 (pieces text) ≡ answer → answer ≢ Err (EmptyLabel 0) → reading_of text ≡ answer
 unfolding reading_of reading_from
 reading_of-from text answer is other =
     elim (cases_Bool (bytes_eq text (dot ∷ []))) [
@@ -178,7 +197,8 @@ read-end : (labels : Option (List (List ℕ))) (at : ℕ) → 0 < at → reading
 unfolding reading_from pieces_after
 read-end labels at some = cond-false _ (Err (EmptyLabel at)) _ (ne_eqb at 0 (λ e. omega (arith, e)))
 
-read-end_label : (labels : Option (List (List ℕ))) (start : ℕ) (label : List ℕ) (at : ℕ) → 0 < length label → reading_from labels start label at (pieces []) ≡ Ok (with_label labels label, false)
+read-end_label : (labels : Option (List (List ℕ))) (start : ℕ) (label : List ℕ) (at : ℕ) → 0 < length label
+    → reading_from labels start label at (pieces []) ≡ Ok (with_label labels label, false)
 unfolding reading_from pieces_after
 read-end_label labels start [] at some = absurd (omega arith)
 read-end_label labels start (b ∷ bs) at some = refl
@@ -259,23 +279,27 @@ reading_of-long text at h =
     ) (λ e. cc)
 
 -- an ill-formed escape
-decimal_piece-broken : (x : ℕ) (rest : List ℕ) → IsTrue (is_ascii_digit x) → ((first : List ℕ) (after : List ℕ) (byte : ℕ) → backslash ∷ x ∷ rest ≡ first ++ after → SpellsByte first byte → ⊥) → decimal_piece x rest ≡ Broken
-decimal_piece-broken x [] digit none = refl
-decimal_piece-broken x (y ∷ []) digit none = refl
-decimal_piece-broken x (y ∷ z ∷ rest) digit none =
+decimal_byte-none : (x : ℕ) (rest : List ℕ) → IsTrue (is_ascii_digit x)
+    → ((first : List ℕ) (after : List ℕ) (byte : ℕ) → backslash ∷ x ∷ rest ≡ first ++ after → SpellsByte first byte → ⊥)
+    → decimal_byte x rest ≡ None
+decimal_byte-none x [] digit none = refl
+decimal_byte-none x (y ∷ []) digit none = refl
+decimal_byte-none x (y ∷ z ∷ rest) digit none =
     elim (cases_Bool (is_ascii_digit y && is_ascii_digit z && nat_le (decimal_of x y z) 255)) [
       | inl all ↦
           let small = and_parts (is_ascii_digit y && is_ascii_digit z) _ all in
           let both = and_parts (is_ascii_digit y) _ small.0 in
           absurd (none (backslash ∷ x ∷ y ∷ z ∷ []) rest (decimal_of x y z) refl (inr (inr (x, y, z, refl, digit, both.0, both.1, refl, leb-true _ 255 small.1))))
-      | inr fails ↦ cond-false _ (Byte (decimal_of x y z) 3) Broken fails
+      | inr fails ↦ cond-false _ (Some (decimal_of x y z, 3)) None fails
     ]
 
-escape_piece-broken : (rest : List ℕ) → ((first : List ℕ) (after : List ℕ) (byte : ℕ) → backslash ∷ rest ≡ first ++ after → SpellsByte first byte → ⊥) → escape_piece rest ≡ Broken
+escape_piece-broken : (rest : List ℕ)
+    → ((first : List ℕ) (after : List ℕ) (byte : ℕ) → backslash ∷ rest ≡ first ++ after → SpellsByte first byte → ⊥)
+    → escape_piece rest ≡ Broken
 escape_piece-broken [] none = refl
 escape_piece-broken (x ∷ rest) none =
     elim (cases_Bool (is_ascii_digit x)) [
-      | inl digit ↦ cond-true _ (decimal_piece x rest) (Byte x 1) digit ∙ decimal_piece-broken x rest digit none
+      | inl digit ↦ ap piece_of (cond-true _ (decimal_byte x rest) (Some (x, 1)) digit ∙ decimal_byte-none x rest digit none)
       | inr other ↦ absurd (none (backslash ∷ x ∷ []) rest x refl (inr (inl (refl, other))))
     ]
 
@@ -284,7 +308,8 @@ first_piece-broken text h =
     let rest = h.0.0 in
     (backslash, rest, h.0.1, escape_piece-broken rest (λ first after byte is. h.1 first after byte (h.0.1 ∙ is)))
 
-read-broken_cons : (labels : Option (List (List ℕ))) (start : ℕ) (label : List ℕ) (at : ℕ) (rest : List Piece) → reading_from labels start label at (Broken ∷ rest) ≡ Err (BadEscape at)
+read-broken_cons : (labels : Option (List (List ℕ))) (start : ℕ) (label : List ℕ) (at : ℕ) (rest : List Piece)
+    → reading_from labels start label at (Broken ∷ rest) ≡ Err (BadEscape at)
 unfolding reading_from
 read-broken_cons labels start label at rest = refl
 
@@ -340,4 +365,5 @@ IsAbsolute-text (l ∷ ls) h = SpellsDotted-text (l ∷ ls) h
 
 pub name_of-text_of : (labels : List (List ℕ)) (origin : Option (List (List ℕ))) → IsName labels → name_of (text_of labels) origin ≡ Ok labels
 name_of-text_of labels origin h =
-    ap (λ r. finished r origin) (reading_of-absolute labels (text_of labels) (IsAbsolute-text labels h.each)) ∙ ap fitting (sym (name_within-fits labels h.short))
+    ap (λ r. finished r origin) (reading_of-absolute labels (text_of labels) (IsAbsolute-text labels h.each))
+    ∙ ap fitting (sym (name_within-fits labels h.short))

@@ -45,7 +45,8 @@ pub target-low : (message targets : List ℕ) (offset to : ℕ) → AreTargets m
 target-low message targets offset to are is = hops-low message offset to (hops-of message targets offset to are is)
 
 -- one target more
-pub targets-more : (message targets more : List ℕ) (at to : ℕ) → AreTargets message targets → length targets ≡ at → Hops message at to → more ≡ targets ++ to ∷ [] → AreTargets message more
+pub targets-more : (message targets more : List ℕ) (at to : ℕ) → AreTargets message targets → length targets ≡ at
+    → Hops message at to → more ≡ targets ++ to ∷ [] → AreTargets message more
 targets-more message targets more at to are size hops is place low = by_place (by_size place at)
   where
     by_size : (n m : ℕ) → (n < m) ⊎ (m ≤ n)
@@ -71,7 +72,8 @@ targets-more message targets more at to are size hops is place low = by_place (b
         subst (λ t. Hops message place t) (sym value) (subst (λ p. Hops message p to) own hops)
 
 -- fields after fields
-leads-more : (message : List ℕ) (s a : ℕ) (fs more : List Field) (t h u k : ℕ) → Leads message s a fs t h → Leads message t h more u k → Leads message s a (fs ++ more) u k
+leads-more : (message : List ℕ) (s a : ℕ) (fs more : List Field) (t h u k : ℕ) → Leads message s a fs t h
+    → Leads message t h more u k → Leads message s a (fs ++ more) u k
 leads-more message s a [] more t h u k f g =
     subst (λ x. Leads message x a more u k) (sym f.0) (subst (λ x. Leads message t x more u k) (sym f.1) g)
 leads-more message s a (by_label l ∷ fs) more t h u k f g =
@@ -89,7 +91,9 @@ after-more a (by_label l ∷ fs) more next is = after-more (a + (length l + 1)) 
 after-more a (by_pointer o ∷ fs) more next is = refl
 
 -- a chain of pointers after a pointer
-pub chain-step : (message : List ℕ) (at : ℕ) (wire : List ℕ) (offset next to : ℕ) → IsReading message at wire offset offset (Some next) → Hops message offset to → IsReading message at wire to to (Some next)
+pub chain-step : (message : List ℕ) (at : ℕ) (wire : List ℕ) (offset next to : ℕ)
+    → IsReading message at wire offset offset (Some next) → Hops message offset to
+    → IsReading message at wire to to (Some next)
 chain-step message at wire offset next to r hops =
     let low = hops-low message offset to hops in
     let inside = r.inside in

@@ -1,94 +1,22 @@
-use Rattle.std.proofs.Common.{◌≡◌, ◌≢◌, ◌⊎◌, ℕ, zero, suc, ◌+◌, ◌<◌, ◌≤◌, List, [], ◌∷◌, ◌++◌, length, drop, Bool, true, false, ◌&&◌, ◌==◌, nat_le, bytes_eq, ◌↔◌, Option, Some, None, option_and_then, Result, Ok, Err, refl, sym, ◌∙◌, ap, subst, inl, inr, arith, append_assoc, length-append, not, IsTrue}
+-- Name texts: what is read of a text is what it stands for, and texts are read again.
+use Rattle.std.proofs.Common.{◌≡◌, ◌≢◌, ◌⊎◌, ℕ, zero, suc, ◌+◌, ◌<◌, ◌≤◌, List, [], ◌∷◌, ◌++◌, length, drop, Bool, true, false, ◌==◌, bytes_eq, ◌↔◌, Option, Some, None, option_and_then, Result, Ok, Err, refl, sym, ◌∙◌, ap, subst, inl, inr, arith, append_assoc, length-append, not, IsTrue}
 use Rattle.std.proofs.lemmas.List.{append-nil, length-drop, nil_from_length}
-use Rattle.std.proofs.lemmas.Bool.{cases_lt, cond_both, eqb-true, eqb-false, leb-true, and_parts, or_cases, not-true, cond-true, cond-false, false≢true}
+use Rattle.std.proofs.lemmas.Bool.{cases_lt, cond_both, eqb-true, eqb-false, and_parts, or_cases, not-true, cond-true, cond-false, false≢true}
 use Rattle.std.proofs.lemmas.Slice.Eq.{bytes_eq-Decides}
-use Rattle.std.specs.Char.{is_ascii_digit}
 use Rattle.std.specs.List.{AllByRecursion, flat_map}
 use Rattle.dns_name.specs.Name.{IsByte, IsLabel, label_wire, wire_of, name_within}
-use Rattle.dns_name.specs.Text.{dot, backslash, decimal_of, SpellsByte, SpellsBytes, SpellsDotted, IsAbsolute, IsRelative, StandsFor, HasEmptyLabel, HasLongLabel, HasBadEscape, BeginsIllFormed, is_visible, is_special, byte_text, label_text, text_of}
+use Rattle.enum_base.specs.Escapes.{backslash}
+use Rattle.dns_name.specs.Text.{dot, SpellsByte, SpellsBytes, SpellsDotted, IsAbsolute, IsRelative, StandsFor, HasEmptyLabel, HasLongLabel, HasBadEscape, is_visible, is_special, byte_text, label_text, text_of}
 use Rattle.dns_name.specs.Laws.{is_unescaped}
-use Rattle.dns_name.specs.Reading.{decimal_piece, escape_piece, first_piece, more_of, pieces_after, pieces, reading_from, reading_of, fitting, finished, name_of}
+use Rattle.dns_name.specs.Reading.{first_piece, more_of, pieces_after, pieces, reading_from, reading_of, fitting, finished, name_of}
 use Rattle.dns_name.specs.declared.piece.Piece.{Piece}
 use Rattle.dns_name.specs.declared.piece.Piece.TheVariants.{Dot, Byte, Broken}
 use Rattle.dns_name.specs.declared.fault.NameFault.{NameFault}
 use Rattle.dns_name.specs.declared.fault.NameFault.TheVariants.{EmptyLabel, LabelTooLong, NameTooLong, BadEscape, NoOrigin}
 use Rattle.dns_name.proofs.NameLemmas.{name_within-fits, name_within-long, wire_of-append}
 use Rattle.dns_name.proofs.TextLemmas.{pieces-cons}
-use Rattle.dns_name.proofs.SpellLemmas.{SpellsByte-piece, with_label-within, reading_of-absolute, reading_of-relative, reading_of-empty, reading_of-long, reading_of-escape}
-
-less_more : (n limit m : ℕ) → (n ≡ limit → ⊥) → n ≤ limit → m ≡ n + 1 → m ≤ limit
-less_more n limit m off most is = omega (arith, off)
-
--- one byte or one label more
-SpellsBytes-snoc : (bytes : List ℕ) (text : List ℕ) → SpellsBytes text bytes → (t : List ℕ) (b : ℕ) → SpellsByte t b → SpellsBytes (text ++ t) (bytes ++ b ∷ [])
-SpellsBytes-snoc [] text h t b s = (t, [], ap (λ x. x ++ t) h ∙ sym (append-nil t), s, refl)
-SpellsBytes-snoc (c ∷ cs) text h t b s =
-    (h.0, h.1 ++ t, ap (λ x. x ++ t) h.2 ∙ append_assoc h.0 h.1 t, h.3, SpellsBytes-snoc cs h.1 h.4 t b s)
-
-SpellsDotted-snoc : (labels : List (List ℕ)) (text : List ℕ) → SpellsDotted text labels → (t : List ℕ) (l : List ℕ) → SpellsBytes t l → IsLabel l → SpellsDotted (text ++ (t ++ dot ∷ [])) (labels ++ l ∷ [])
-SpellsDotted-snoc [] text h t l s i = (t, [], ap (λ x. x ++ (t ++ dot ∷ [])) h, s, i, refl)
-SpellsDotted-snoc (k ∷ ks) text h t l s i =
-    (h.0, h.1 ++ (t ++ dot ∷ []), ap (λ x. x ++ (t ++ dot ∷ [])) h.2 ∙ append_assoc h.0 (dot ∷ h.1) (t ++ dot ∷ []), h.3, h.4, SpellsDotted-snoc ks h.1 h.5 t l s i)
-
--- bytes of a text and of what it stands for
-AllBytes-left : (xs ys : List ℕ) → AllByRecursion IsByte (xs ++ ys) → AllByRecursion IsByte xs
-AllBytes-left [] ys h = tt
-AllBytes-left (x ∷ xs) ys h = (h.0, AllBytes-left xs ys h.1)
-
-AllBytes-right : (xs ys : List ℕ) → AllByRecursion IsByte (xs ++ ys) → AllByRecursion IsByte ys
-AllBytes-right [] ys h = h
-AllBytes-right (x ∷ xs) ys h = AllBytes-right xs ys h.1
-
-IsByte-spelt : (t : List ℕ) (b : ℕ) → SpellsByte t b → AllByRecursion IsByte t → IsByte b
-IsByte-spelt t b (inl h) all = let P : List ℕ → Type 0 = AllByRecursion IsByte in (subst P h.0 all).0
-IsByte-spelt t b (inr (inl h)) all = let P : List ℕ → Type 0 = AllByRecursion IsByte in (subst P h.0 all).1.0
-IsByte-spelt t b (inr (inr h)) all = let small = h.8 in omega arith
-
-AreBytes-spelt : (bytes : List ℕ) (text : List ℕ) → SpellsBytes text bytes → AllByRecursion IsByte text → AllByRecursion IsByte bytes
-AreBytes-spelt [] text h all = tt
-AreBytes-spelt (b ∷ bs) text h all =
-    let P : List ℕ → Type 0 = AllByRecursion IsByte in
-    let parts = subst P h.2 all in
-    (IsByte-spelt h.0 b h.3 (AllBytes-left h.0 h.1 parts), AreBytes-spelt bs h.1 h.4 (AllBytes-right h.0 h.1 parts))
-
--- what the piece at the front of a text shows
-Met : ℕ → List ℕ → Piece → Type 0
-Met x rest Dot = x ≡ dot
-Met x rest (Byte value more) =
-    (t : List ℕ) × (x ∷ rest ≡ t ++ drop more rest) × SpellsByte t value × (length t ≡ more + 1)
-Met x rest Broken = x ≡ backslash
-
-met_decimal : (x y : ℕ) (rest : List ℕ) → x ≡ backslash → is_ascii_digit y ≡ true → Met x (y ∷ rest) (decimal_piece y rest)
-unfolding Met
-met_decimal x y [] is digit = is
-met_decimal x y (z ∷ []) is digit = is
-met_decimal x y (z ∷ w ∷ rest) is digit =
-    cond_both (is_ascii_digit z && is_ascii_digit w && nat_le (decimal_of y z w) 255) (Byte (decimal_of y z w) 3) Broken (Met x (y ∷ z ∷ w ∷ rest)) (λ all.
-    let small = and_parts (is_ascii_digit z && is_ascii_digit w) _ all in
-    let both = and_parts (is_ascii_digit z) _ small.0 in
-    (backslash ∷ y ∷ z ∷ w ∷ [], ap (λ k. k ∷ y ∷ z ∷ w ∷ rest) is, inr (inr (y, z, w, refl, digit, both.0, both.1, refl, leb-true _ 255 small.1)), refl)) (λ _. is)
-
-met_escape : (x : ℕ) (rest : List ℕ) → x ≡ backslash → Met x rest (escape_piece rest)
-unfolding Met
-met_escape x [] is = is
-met_escape x (y ∷ rest) is =
-    cond_both (is_ascii_digit y) (decimal_piece y rest) (Byte y 1) (Met x (y ∷ rest)) (λ digit. met_decimal x y rest is digit) (λ other. (backslash ∷ y ∷ [], ap (λ k. k ∷ y ∷ rest) is, inr (inl (refl, other)), refl))
-
-met : (x : ℕ) (rest : List ℕ) → Met x rest (first_piece (x ∷ rest))
-unfolding Met
-met x rest =
-    cond_both (x == 46) Dot _ (Met x rest) (λ e. eqb-true x 46 e) (λ ne.
-    cond_both (x == 92) (escape_piece rest) (Byte x 0) (Met x rest) (λ e. met_escape x rest (eqb-true x 92 e)) (λ nb.
-    (x ∷ [], refl, inl (refl, eqb-false x 46 ne, eqb-false x 92 nb), refl)))
-
-ill_formed : (x : ℕ) (rest : List ℕ) → x ≡ backslash → Broken ≡ first_piece (x ∷ rest) → BeginsIllFormed (x ∷ rest)
-ill_formed x rest is broken = (
-  (rest, ap (λ k. k ∷ rest) is),
-  λ first after byte parts spells.
-      let p = SpellsByte-piece first byte spells in
-      let e : Broken ≡ Byte byte p.more = broken ∙ ap first_piece parts ∙ p.first after in
-      cc,
-)
+use Rattle.dns_name.proofs.SpellLemmas.{with_label-within, reading_of-absolute, reading_of-relative, reading_of-empty, reading_of-long, reading_of-escape}
+use Rattle.dns_name.proofs.PieceLemmas.{less_more, SpellsBytes-snoc, SpellsDotted-snoc, AllBytes-left, AllBytes-right, AreBytes-spelt, Met, met, ill_formed}
 
 -- where a reading stands: after whole labels and some bytes of one more
 record Stands (whole text front middle : List ℕ) (labels : List (List ℕ)) (label : List ℕ) (start at : ℕ) : Type 0 where
@@ -110,7 +38,8 @@ Shows text (Err (BadEscape at)) = HasBadEscape text at
 Shows text (Err NameTooLong) = ⊥
 Shows text (Err NoOrigin) = ⊥
 
-IsLabel-stands : (whole text front middle : List ℕ) (labels : List (List ℕ)) (b : ℕ) (bs : List ℕ) (start at : ℕ) → Stands whole text front middle labels (b ∷ bs) start at → IsLabel (b ∷ bs)
+IsLabel-stands : (whole text front middle : List ℕ) (labels : List (List ℕ)) (b : ℕ) (bs : List ℕ) (start at : ℕ)
+    → Stands whole text front middle labels (b ∷ bs) start at → IsLabel (b ∷ bs)
 IsLabel-stands whole text front middle labels b bs start at s =
     let P : List ℕ → Type 0 = AllByRecursion IsByte in
     record {
@@ -119,7 +48,9 @@ IsLabel-stands whole text front middle labels b bs start at s =
       bytes = AreBytes-spelt (b ∷ bs) middle s.bytes (AllBytes-left middle text (AllBytes-right front (middle ++ text) (subst P s.parts s.all)));
     }
 
-shows_end : (whole front middle : List ℕ) (labels : List (List ℕ)) (label : List ℕ) (start at : ℕ) → Stands whole [] front middle labels label start at → Shows whole (reading_from (name_within labels) start label at [])
+shows_end : (whole front middle : List ℕ) (labels : List (List ℕ)) (label : List ℕ) (start at : ℕ)
+    → Stands whole [] front middle labels label start at
+    → Shows whole (reading_from (name_within labels) start label at [])
 unfolding Shows reading_from
 shows_end whole front middle labels [] start at s =
     let none : whole ≡ front = s.parts ∙ ap (λ m. front ++ (m ++ [])) s.bytes ∙ append-nil front in
@@ -141,9 +72,13 @@ shows_end whole front middle labels (b ∷ bs) start at s =
 -- what is shown of whatever is left, up to a length
 Continues : List ℕ → ℕ → Type 0
 Continues whole most =
-    (text front middle : List ℕ) (labels : List (List ℕ)) (label : List ℕ) (start at : ℕ) → length text ≤ most → Stands whole text front middle labels label start at → Shows whole (reading_from (name_within labels) start label at (pieces text))
+    (text front middle : List ℕ) (labels : List (List ℕ)) (label : List ℕ) (start at : ℕ) → length text ≤ most
+    → Stands whole text front middle labels label start at
+    → Shows whole (reading_from (name_within labels) start label at (pieces text))
 
-shows_dot : (whole : List ℕ) (x : ℕ) (rest front middle : List ℕ) (labels : List (List ℕ)) (label : List ℕ) (start at : ℕ) → Continues whole (length rest) → x ≡ dot → Stands whole (x ∷ rest) front middle labels label start at → Shows whole (reading_from (name_within labels) start label at (Dot ∷ pieces rest))
+shows_dot : (whole : List ℕ) (x : ℕ) (rest front middle : List ℕ) (labels : List (List ℕ)) (label : List ℕ) (start at : ℕ)
+    → Continues whole (length rest) → x ≡ dot → Stands whole (x ∷ rest) front middle labels label start at
+    → Shows whole (reading_from (name_within labels) start label at (Dot ∷ pieces rest))
 unfolding Shows reading_from Continues
 shows_dot whole x rest front middle labels [] start at go is s = λ other. record {
   front = front;
@@ -161,7 +96,8 @@ shows_dot whole x rest front middle labels (b ∷ bs) start at go is s =
     let at_is = s.at_is in
     let size : length front' ≡ at + 1 = omega (arith, length-append front (middle ++ dot ∷ []), length-append middle (dot ∷ []), length-append front middle, at_is) in
     let cut : front ++ (middle ++ x ∷ rest) ≡ front' ++ ([] ++ rest) =
-    ap (λ k. front ++ (middle ++ k ∷ rest)) is ∙ ap (λ m. front ++ m) (sym (append_assoc middle (dot ∷ []) rest)) ∙ sym (append_assoc front (middle ++ dot ∷ []) rest) in
+    ap (λ k. front ++ (middle ++ k ∷ rest)) is ∙ ap (λ m. front ++ m) (sym (append_assoc middle (dot ∷ []) rest))
+    ∙ sym (append_assoc front (middle ++ dot ∷ []) rest) in
     let next : Stands whole rest front' [] (labels ++ label ∷ []) [] (at + 1) (at + 1) = record {
       parts = s.parts ∙ cut;
       before = SpellsDotted-snoc labels front s.before middle label s.bytes (IsLabel-stands whole (x ∷ rest) front middle labels b bs start at s);
@@ -174,7 +110,10 @@ shows_dot whole x rest front middle labels (b ∷ bs) start at go is s =
     let P : Option (List (List ℕ)) → Type 0 = λ o. Shows whole (reading_from o (at + 1) [] (at + 1) (pieces rest)) in
     subst P (sym (with_label-within labels label)) (go rest front' [] (labels ++ label ∷ []) [] (at + 1) (at + 1) (omega arith) next)
 
-shows_byte : (whole : List ℕ) (x : ℕ) (rest front middle : List ℕ) (labels : List (List ℕ)) (label : List ℕ) (start at value more : ℕ) → Continues whole (length rest) → Met x rest (Byte value more) → Stands whole (x ∷ rest) front middle labels label start at → Shows whole (reading_from (name_within labels) start label at (Byte value more ∷ pieces (drop more rest)))
+shows_byte : (whole : List ℕ) (x : ℕ) (rest front middle : List ℕ) (labels : List (List ℕ)) (label : List ℕ) (start at value more : ℕ)
+    → Continues whole (length rest) → Met x rest (Byte value more)
+    → Stands whole (x ∷ rest) front middle labels label start at
+    → Shows whole (reading_from (name_within labels) start label at (Byte value more ∷ pieces (drop more rest)))
 unfolding Shows reading_from Continues Met
 shows_byte whole x rest front middle labels label start at value more go h s =
     let t = h.0 in
@@ -205,7 +144,9 @@ shows_byte whole x rest front middle labels label start at value more go h s =
       all = s.all;
     }))
 
-shows_broken : (whole : List ℕ) (x : ℕ) (rest front middle : List ℕ) (labels : List (List ℕ)) (label : List ℕ) (start at : ℕ) (more : List Piece) → Broken ≡ first_piece (x ∷ rest) → x ≡ backslash → Stands whole (x ∷ rest) front middle labels label start at → Shows whole (reading_from (name_within labels) start label at (Broken ∷ more))
+shows_broken : (whole : List ℕ) (x : ℕ) (rest front middle : List ℕ) (labels : List (List ℕ)) (label : List ℕ) (start at : ℕ) (more : List Piece)
+    → Broken ≡ first_piece (x ∷ rest) → x ≡ backslash → Stands whole (x ∷ rest) front middle labels label start at
+    → Shows whole (reading_from (name_within labels) start label at (Broken ∷ more))
 unfolding Shows reading_from
 shows_broken whole x rest front middle labels label start at more broken is s = record {
   front = front;
@@ -221,10 +162,14 @@ shows_broken whole x rest front middle labels label start at more broken is s = 
   ill_formed = ill_formed x rest is broken;
 }
 
-shows_piece : (whole : List ℕ) (x : ℕ) (rest front middle : List ℕ) (labels : List (List ℕ)) (label : List ℕ) (start at : ℕ) (piece : Piece) → Continues whole (length rest) → piece ≡ first_piece (x ∷ rest) → Met x rest piece → Stands whole (x ∷ rest) front middle labels label start at → Shows whole (reading_from (name_within labels) start label at (piece ∷ pieces (drop (more_of piece) rest)))
+shows_piece : (whole : List ℕ) (x : ℕ) (rest front middle : List ℕ) (labels : List (List ℕ)) (label : List ℕ) (start at : ℕ) (piece : Piece)
+    → Continues whole (length rest) → piece ≡ first_piece (x ∷ rest) → Met x rest piece
+    → Stands whole (x ∷ rest) front middle labels label start at
+    → Shows whole (reading_from (name_within labels) start label at (piece ∷ pieces (drop (more_of piece) rest)))
 unfolding Met
 shows_piece whole x rest front middle labels label start at Dot go is h s = shows_dot whole x rest front middle labels label start at go h s
-shows_piece whole x rest front middle labels label start at (Byte value more) go is h s = shows_byte whole x rest front middle labels label start at value more go h s
+shows_piece whole x rest front middle labels label start at (Byte value more) go is h s =
+    shows_byte whole x rest front middle labels label start at value more go h s
 shows_piece whole x rest front middle labels label start at Broken go is h s = shows_broken whole x rest front middle labels label start at _ is h s
 
 continues : (whole : List ℕ) (most : ℕ) → Continues whole most
@@ -306,14 +251,18 @@ with_origin own origin =
     ]
 
 -- the name of a text, by what it stands for
-name_of-stands : (text : List ℕ) (origin : Option (List (List ℕ))) (labels : List (List ℕ)) → StandsFor text origin labels → name_of text origin ≡ fitting (name_within labels)
+name_of-stands : (text : List ℕ) (origin : Option (List (List ℕ))) (labels : List (List ℕ))
+    → StandsFor text origin labels → name_of text origin ≡ fitting (name_within labels)
 name_of-stands text None labels h = ap (λ r. finished r None) (reading_of-absolute labels text h)
 name_of-stands text (Some origin) labels (inl h) = ap (λ r. finished r (Some origin)) (reading_of-absolute labels text h)
 name_of-stands text (Some origin) labels (inr h) =
     ap (λ r. finished r (Some origin)) (reading_of-relative h.0 text h.1) ∙ ap fitting (with_origin h.0 origin ∙ ap name_within (sym h.2))
 
 -- what a text and an origin stand for, where they have no other fault
-stands-name_of : (text : List ℕ) (origin : Option (List (List ℕ))) (read : Result (Option (List (List ℕ)) × Bool) NameFault) → Is text read → ((labels : List (List ℕ)) × StandsFor text origin labels × (finished read origin ≡ fitting (name_within labels))) ⊎ ((fault : NameFault) × (finished read origin ≡ Err fault) × (fault ≢ NameTooLong))
+stands-name_of : (text : List ℕ) (origin : Option (List (List ℕ))) (read : Result (Option (List (List ℕ)) × Bool) NameFault)
+    → Is text read
+    → ((labels : List (List ℕ)) × StandsFor text origin labels × (finished read origin ≡ fitting (name_within labels)))
+    ⊎ ((fault : NameFault) × (finished read origin ≡ Err fault) × (fault ≢ NameTooLong))
 unfolding Is
 stands-name_of text None (Ok (o, true)) h = inl (h.0, h.2, ap fitting h.1)
 stands-name_of text (Some origin) (Ok (o, true)) h = inl (h.0, inl h.2, ap fitting h.1)
@@ -327,7 +276,9 @@ stands-name_of text origin (Err NameTooLong) h = absurd h
 stands-name_of text origin (Err NoOrigin) h = absurd h
 
 -- exactly the texts that stand for a name that fits are accepted
-pub accepted-iff : (text : List ℕ) (origin : Option (List (List ℕ))) → AllByRecursion IsByte text → (labels : List (List ℕ)) → (name_of text origin ≡ Ok labels) ↔ (StandsFor text origin labels × (length (wire_of labels) ≤ 255))
+pub accepted-iff : (text : List ℕ) (origin : Option (List (List ℕ))) → AllByRecursion IsByte text
+    → (labels : List (List ℕ))
+    → (name_of text origin ≡ Ok labels) ↔ (StandsFor text origin labels × (length (wire_of labels) ≤ 255))
 accepted-iff text origin all labels = (
   λ e. elim (stands-name_of text origin (reading_of text) (reading_of-is text all)) [
     | inl h ↦
@@ -340,7 +291,8 @@ accepted-iff text origin all labels = (
 )
 
 -- exactly those that stand for longer ones are too long
-pub too_long-iff : (text : List ℕ) (origin : Option (List (List ℕ))) → AllByRecursion IsByte text → (name_of text origin ≡ Err NameTooLong) ↔ ((labels : List (List ℕ)) × StandsFor text origin labels × (255 < length (wire_of labels)))
+pub too_long-iff : (text : List ℕ) (origin : Option (List (List ℕ))) → AllByRecursion IsByte text
+    → (name_of text origin ≡ Err NameTooLong) ↔ ((labels : List (List ℕ)) × StandsFor text origin labels × (255 < length (wire_of labels)))
 too_long-iff text origin all = (
   λ e. elim (stands-name_of text origin (reading_of text) (reading_of-is text all)) [
     | inl h ↦ (h.0, h.1, fitting-long h.0 (sym h.2 ∙ e))
@@ -365,7 +317,8 @@ fitting-placed None fault place e =
     false≢true wrong
 fitting-placed (Some labels) fault place e = cc
 
-finished-placed : (read : Result (Option (List (List ℕ)) × Bool) NameFault) (origin : Option (List (List ℕ))) (fault : NameFault) → placed fault ≡ true → finished read origin ≡ Err fault → read ≡ Err fault
+finished-placed : (read : Result (Option (List (List ℕ)) × Bool) NameFault) (origin : Option (List (List ℕ))) (fault : NameFault)
+    → placed fault ≡ true → finished read origin ≡ Err fault → read ≡ Err fault
 unfolding placed
 finished-placed (Err f) origin fault place e = let same : f ≡ fault = cc in ap (λ x. Err x) same
 finished-placed (Ok (o, true)) origin fault place e = absurd (fitting-placed o fault place e)
@@ -376,22 +329,26 @@ finished-placed (Ok (o, false)) None fault place e =
 finished-placed (Ok (o, false)) (Some origin) fault place e =
     absurd (fitting-placed (option_and_then (λ front. name_within (front ++ origin)) o) fault place e)
 
-fault_is : (text : List ℕ) (origin : Option (List (List ℕ))) (fault : NameFault) → AllByRecursion IsByte text → placed fault ≡ true → name_of text origin ≡ Err fault → Is text (Err fault)
+fault_is : (text : List ℕ) (origin : Option (List (List ℕ))) (fault : NameFault) → AllByRecursion IsByte text
+    → placed fault ≡ true → name_of text origin ≡ Err fault → Is text (Err fault)
 fault_is text origin fault all place e =
     let P : Result (Option (List (List ℕ)) × Bool) NameFault → Type 0 = Is text in
     subst P (finished-placed (reading_of text) origin fault place e) (reading_of-is text all)
 
-pub empty_label-iff : (text : List ℕ) (origin : Option (List (List ℕ))) → AllByRecursion IsByte text → (at : ℕ) → (name_of text origin ≡ Err (EmptyLabel at)) ↔ HasEmptyLabel text at
+pub empty_label-iff : (text : List ℕ) (origin : Option (List (List ℕ))) → AllByRecursion IsByte text → (at : ℕ)
+    → (name_of text origin ≡ Err (EmptyLabel at)) ↔ HasEmptyLabel text at
 unfolding Is placed
 empty_label-iff text origin all at =
     (λ e. fault_is text origin (EmptyLabel at) all refl e, λ h. ap (λ r. finished r origin) (reading_of-empty text at h))
 
-pub long_label-iff : (text : List ℕ) (origin : Option (List (List ℕ))) → AllByRecursion IsByte text → (at : ℕ) → (name_of text origin ≡ Err (LabelTooLong at)) ↔ HasLongLabel text at
+pub long_label-iff : (text : List ℕ) (origin : Option (List (List ℕ))) → AllByRecursion IsByte text → (at : ℕ)
+    → (name_of text origin ≡ Err (LabelTooLong at)) ↔ HasLongLabel text at
 unfolding Is placed
 long_label-iff text origin all at =
     (λ e. fault_is text origin (LabelTooLong at) all refl e, λ h. ap (λ r. finished r origin) (reading_of-long text at h))
 
-pub bad_escape-iff : (text : List ℕ) (origin : Option (List (List ℕ))) → AllByRecursion IsByte text → (at : ℕ) → (name_of text origin ≡ Err (BadEscape at)) ↔ HasBadEscape text at
+pub bad_escape-iff : (text : List ℕ) (origin : Option (List (List ℕ))) → AllByRecursion IsByte text → (at : ℕ)
+    → (name_of text origin ≡ Err (BadEscape at)) ↔ HasBadEscape text at
 unfolding Is placed
 bad_escape-iff text origin all at =
     (λ e. fault_is text origin (BadEscape at) all refl e, λ h. ap (λ r. finished r origin) (reading_of-escape text at h))
@@ -401,13 +358,16 @@ fitting-origin : (o : Option (List (List ℕ))) → fitting o ≡ Err NoOrigin �
 fitting-origin None e = cc
 fitting-origin (Some labels) e = cc
 
-wants_origin : (text : List ℕ) (read : Result (Option (List (List ℕ)) × Bool) NameFault) (origin : Option (List (List ℕ))) → Is text read → finished read origin ≡ Err NoOrigin → (origin ≡ None) × ((own : List (List ℕ)) × IsRelative text own)
+wants_origin : (text : List ℕ) (read : Result (Option (List (List ℕ)) × Bool) NameFault) (origin : Option (List (List ℕ)))
+    → Is text read → finished read origin ≡ Err NoOrigin
+    → (origin ≡ None) × ((own : List (List ℕ)) × IsRelative text own)
 unfolding Is
 wants_origin text (Ok (None, true)) origin h e = absurd (cc)
 wants_origin text (Ok (Some labels, true)) origin h e = absurd (cc)
 wants_origin text (Ok (o, false)) None h e = (refl, (h.0, h.2))
 wants_origin text (Ok (o, false)) (Some origin) h e =
-    let d : fitting (name_within (h.0 ++ origin)) ≡ Err NoOrigin = sym (ap (λ x. fitting (option_and_then (λ front. name_within (front ++ origin)) x)) h.1 ∙ ap fitting (with_origin h.0 origin)) ∙ e in
+    let d : fitting (name_within (h.0 ++ origin)) ≡ Err NoOrigin = sym (ap (λ x. fitting (option_and_then (λ front. name_within (front ++ origin)) x)) h.1 ∙ ap fitting (with_origin h.0 origin))
+    ∙ e in
     absurd (fitting-origin (name_within (h.0 ++ origin)) d)
 wants_origin text (Err (EmptyLabel at)) origin h e = absurd (cc)
 wants_origin text (Err (LabelTooLong at)) origin h e = absurd (cc)
@@ -415,7 +375,8 @@ wants_origin text (Err (BadEscape at)) origin h e = absurd (cc)
 wants_origin text (Err NameTooLong) origin h e = absurd h
 wants_origin text (Err NoOrigin) origin h e = absurd h
 
-pub no_origin-iff : (text : List ℕ) (origin : Option (List (List ℕ))) → AllByRecursion IsByte text → (name_of text origin ≡ Err NoOrigin) ↔ ((origin ≡ None) × ((own : List (List ℕ)) × IsRelative text own))
+pub no_origin-iff : (text : List ℕ) (origin : Option (List (List ℕ))) → AllByRecursion IsByte text
+    → (name_of text origin ≡ Err NoOrigin) ↔ ((origin ≡ None) × ((own : List (List ℕ)) × IsRelative text own))
 no_origin-iff text origin all = (
   wants_origin text (reading_of text) origin (reading_of-is text all),
   λ h. ap (λ r. finished r origin) (reading_of-relative h.1.0 text h.1.1) ∙ ap (finished (Ok (name_within h.1.0, false))) h.0,
@@ -457,7 +418,8 @@ All-right : (P : ℕ → Type 0) (xs ys : List ℕ) → AllByRecursion P (xs ++ 
 All-right P [] ys h = h
 All-right P (x ∷ xs) ys h = All-right P xs ys h.1
 
-SpellsBytes-unescaped : (bytes : List ℕ) (text : List ℕ) → SpellsBytes text bytes → AllByRecursion (λ byte. IsTrue (is_unescaped byte)) text → text ≡ flat_map byte_text bytes
+SpellsBytes-unescaped : (bytes : List ℕ) (text : List ℕ) → SpellsBytes text bytes
+    → AllByRecursion (λ byte. IsTrue (is_unescaped byte)) text → text ≡ flat_map byte_text bytes
 SpellsBytes-unescaped [] text h all = h
 SpellsBytes-unescaped (b ∷ bs) text h all =
     let Open : ℕ → Type 0 = λ byte. IsTrue (is_unescaped byte) in
@@ -467,7 +429,8 @@ SpellsBytes-unescaped (b ∷ bs) text h all =
     ∙ ap (λ t. t ++ h.1) (SpellsByte-unescaped h.0 b h.3 (All-left Open h.0 h.1 parts))
     ∙ ap (λ t. byte_text b ++ t) (SpellsBytes-unescaped bs h.1 h.4 (All-right Open h.0 h.1 parts))
 
-SpellsDotted-unescaped : (labels : List (List ℕ)) (text : List ℕ) → SpellsDotted text labels → AllByRecursion (λ byte. IsTrue (is_unescaped byte)) text → text ≡ flat_map label_text labels
+SpellsDotted-unescaped : (labels : List (List ℕ)) (text : List ℕ) → SpellsDotted text labels
+    → AllByRecursion (λ byte. IsTrue (is_unescaped byte)) text → text ≡ flat_map label_text labels
 SpellsDotted-unescaped [] text h all = h
 SpellsDotted-unescaped (l ∷ ls) text h all =
     let Open : ℕ → Type 0 = λ byte. IsTrue (is_unescaped byte) in
@@ -478,6 +441,7 @@ SpellsDotted-unescaped (l ∷ ls) text h all =
     ∙ ap (λ t. flat_map byte_text l ++ dot ∷ t) (SpellsDotted-unescaped ls h.1 h.5 (All-right Open h.0 (dot ∷ h.1) parts).1)
     ∙ sym (append_assoc (flat_map byte_text l) (dot ∷ []) (flat_map label_text ls))
 
-pub IsAbsolute-unescaped : (text : List ℕ) (labels : List (List ℕ)) → AllByRecursion (λ byte. IsTrue (is_unescaped byte)) text → IsAbsolute text labels → text ≡ text_of labels
+pub IsAbsolute-unescaped : (text : List ℕ) (labels : List (List ℕ))
+    → AllByRecursion (λ byte. IsTrue (is_unescaped byte)) text → IsAbsolute text labels → text ≡ text_of labels
 IsAbsolute-unescaped text [] all h = h
 IsAbsolute-unescaped text (l ∷ ls) all h = SpellsDotted-unescaped (l ∷ ls) text h all

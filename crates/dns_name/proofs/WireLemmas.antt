@@ -21,12 +21,16 @@ each-take P [] (suc n) h = tt
 each-take P (x ∷ xs) (suc n) h = (h.0, each-take P xs n h.1)
 
 -- a length byte with enough bytes after it begins a label
-pub label-there : (message : List ℕ) (at size : ℕ) → AllByRecursion IsByte message → at < length message → size ≡ get_or message at 0 → 0 < size → size < 64 → at + size < length message → LabelAt message at (label_bytes message at size) × (length (label_bytes message at size) ≡ size)
+pub label-there : (message : List ℕ) (at size : ℕ) → AllByRecursion IsByte message → at < length message
+    → size ≡ get_or message at 0 → 0 < size → size < 64 → at + size < length message
+    → LabelAt message at (label_bytes message at size) × (length (label_bytes message at size) ≡ size)
 label-there message at size all inside is some most room =
     let whole : length (label_bytes message at size) ≡ size = omega (arith, length-take size (drop (at + 1) message), length-drop (at + 1) message) in
     let here = from_place message at inside in (
       (
-        ap (take (suc (length (label_bytes message at size)))) here ∙ ap (λ n. get_or message at 0 ∷ take n (drop (at + 1) message)) whole ∙ ap (λ b. b ∷ label_bytes message at size) (sym is ∙ sym whole),
+        ap (take (suc (length (label_bytes message at size)))) here
+        ∙ ap (λ n. get_or message at 0 ∷ take n (drop (at + 1) message)) whole
+        ∙ ap (λ b. b ∷ label_bytes message at size) (sym is ∙ sym whole),
         record {
           some = omega arith;
           most = omega arith;
@@ -81,7 +85,8 @@ size_of-append (x ∷ front) back =
     omega arith
 
 -- what is before the last of more labels fits where all do
-fits-first : (front : List (List ℕ)) (label : List ℕ) (back : List (List ℕ)) → length (wire_of (front ++ label ∷ back)) ≤ 255 → length (wire_of (front ++ label ∷ [])) ≤ 255
+fits-first : (front : List (List ℕ)) (label : List ℕ) (back : List (List ℕ))
+    → length (wire_of (front ++ label ∷ back)) ≤ 255 → length (wire_of (front ++ label ∷ [])) ≤ 255
 fits-first front label back fits =
     let whole : (front ++ label ∷ []) ++ back ≡ front ++ label ∷ back = append_assoc front (label ∷ []) back in
     let longer = size_of-append (front ++ label ∷ []) back in
@@ -95,7 +100,10 @@ more-labels front label back = sym (append_assoc front (label ∷ []) back)
 abbrev pub Same : List Field → ℕ → ℕ → List Field → ℕ → ℕ → Type 0
 Same fs s h gs t k = (fs ≡ gs) × (s ≡ t) × (h ≡ k)
 
-pub one_way : (message : List ℕ) (start at : ℕ) (front : List (List ℕ)) (fs gs : List Field) (s h t k : ℕ) → Leads message start at fs s h → Leads message start at gs t k → length (wire_of (front ++ labels_in fs)) ≤ 255 → length (wire_of (front ++ labels_in gs)) ≤ 255 → IsStop message (front ++ labels_in fs) s h → IsStop message (front ++ labels_in gs) t k → Same fs s h gs t k
+pub one_way : (message : List ℕ) (start at : ℕ) (front : List (List ℕ)) (fs gs : List Field) (s h t k : ℕ)
+    → Leads message start at fs s h → Leads message start at gs t k → length (wire_of (front ++ labels_in fs)) ≤ 255
+    → length (wire_of (front ++ labels_in gs)) ≤ 255 → IsStop message (front ++ labels_in fs) s h
+    → IsStop message (front ++ labels_in gs) t k → Same fs s h gs t k
 one_way message start at front [] [] s h t k f g m n p q = (refl, sym f.0 ∙ g.0, sym f.1 ∙ g.1)
 one_way message start at front [] (by_label label ∷ gs) s h t k f g m n p q =
     let stop = p.label label (subst (λ x. LabelAt message x label) f.1 g.0) in

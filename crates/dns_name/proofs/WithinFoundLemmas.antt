@@ -22,7 +22,8 @@ CutOrNot bytes at = ((place : ℕ) × RunIsCut bytes at place) ⊎ ((place : ℕ
 same_or_not : (n m : ℕ) → (n ≡ m) ⊎ (n ≡ m → ⊥)
 same_or_not n m = grind (arith, nat_tests)
 
-by_start : (bytes : List ℕ) (at place start : ℕ) (labels : List (List ℕ)) → Reaches bytes at labels start place → IsCut bytes place → (start ≡ at) ⊎ (start ≡ at → ⊥) → CutOrNot bytes at
+by_start : (bytes : List ℕ) (at place start : ℕ) (labels : List (List ℕ)) → Reaches bytes at labels start place
+    → IsCut bytes place → (start ≡ at) ⊎ (start ≡ at → ⊥) → CutOrNot bytes at
 by_start bytes at place start labels far cut (inl e) = inl (place, (labels, subst (λ s. Reaches bytes at labels s place) e far, cut))
 by_start bytes at place start labels far cut (inr other) = inr no
   where
@@ -34,7 +35,8 @@ cut_or_not bytes at (inl (labels, next, name)) =
     inr (λ place cut. not_both bytes at labels next (Short place) name (cut_breaks bytes at place cut))
 cut_or_not bytes at (inr (Short place, (labels, start, far, cut))) = by_start bytes at place start labels far cut (same_or_not start at)
 cut_or_not bytes at (inr (BadLabelType place, h)) = inr (λ p cut. let e = one_fault bytes at (Short p) (BadLabelType place) (cut_breaks bytes at p cut) h in cc)
-cut_or_not bytes at (inr (ForwardPointer place, h)) = inr (λ p cut. let e = one_fault bytes at (Short p) (ForwardPointer place) (cut_breaks bytes at p cut) h in cc)
+cut_or_not bytes at (inr (ForwardPointer place, h)) =
+    inr (λ p cut. let e = one_fault bytes at (Short p) (ForwardPointer place) (cut_breaks bytes at p cut) h in cc)
 cut_or_not bytes at (inr (NameTooLong place, h)) = inr (λ p cut. let e = one_fault bytes at (Short p) (NameTooLong place) (cut_breaks bytes at p cut) h in cc)
 
 abbrev FoundWithin : List ℕ → ℕ → ℕ → Type 0

@@ -17,7 +17,8 @@ use Rattle.dns_name.proofs.ReadLemmas.{stands, pointer_stands, verdict, Ends, ro
 abbrev IsAfter : List ℕ → ℕ → ℕ → Type 0
 IsAfter message at next = (at < next) × (next ≤ length message)
 
-ends-after : (message : List ℕ) (s a : ℕ) (fs : List Field) (t h : ℕ) → Leads message s a fs t h → RootAt message h → IsAfter message a (unwrap_or (after_pointer a fs) (h + 1))
+ends-after : (message : List ℕ) (s a : ℕ) (fs : List Field) (t h : ℕ) → Leads message s a fs t h → RootAt message h
+    → IsAfter message a (unwrap_or (after_pointer a fs) (h + 1))
 ends-after message s a [] t h f root =
     let k = (stands message h 0 [] root).inside in let e = f.1 in (omega arith, omega arith)
 ends-after message s a (by_label l ∷ fs) t h f root =
@@ -32,7 +33,8 @@ name_after message at labels next n =
     subst (λ k. IsAfter message at k) (sym n.after) (ends-after message at at n.fields n.start n.root n.leads n.end)
 
 -- the clauses of `read_at`
-pub name_iff : (message : List ℕ) (at : ℕ) (r : Result (List (List ℕ) × ℕ) WireFault) → IsAnswer message at r → (labels : List (List ℕ)) (next : ℕ) → (r ≡ Ok (labels, next)) ↔ NameAt message at labels next
+pub name_iff : (message : List ℕ) (at : ℕ) (r : Result (List (List ℕ) × ℕ) WireFault) → IsAnswer message at r
+    → (labels : List (List ℕ)) (next : ℕ) → (r ≡ Ok (labels, next)) ↔ NameAt message at labels next
 name_iff message at (Ok (own, end)) is labels next = (
   λ e. let both : ◌≡◌ {A = List (List ℕ) × ℕ} (own, end) (labels, next) = cc in
       let l = ap (λ (x : List (List ℕ) × ℕ). x.0) both in
@@ -45,14 +47,16 @@ name_iff message at (Ok (own, end)) is labels next = (
 )
 name_iff message at (Err fault) is labels next = (λ e. absurd (cc), λ h. absurd (not_both message at labels next fault h is))
 
-pub fault_iff : (message : List ℕ) (at : ℕ) (r : Result (List (List ℕ) × ℕ) WireFault) → IsAnswer message at r → (fault : WireFault) → (r ≡ Err fault) ↔ NameBreaks message at fault
+pub fault_iff : (message : List ℕ) (at : ℕ) (r : Result (List (List ℕ) × ℕ) WireFault) → IsAnswer message at r
+    → (fault : WireFault) → (r ≡ Err fault) ↔ NameBreaks message at fault
 fault_iff message at (Ok (own, end)) is fault = (λ e. absurd (cc), λ h. absurd (not_both message at own end fault is h))
 fault_iff message at (Err own) is fault = (
   λ e. let f : own ≡ fault = cc in subst (λ x. NameBreaks message at x) f is,
   λ h. ap Err (one_fault message at own fault is h),
 )
 
-pub answer_after : (message : List ℕ) (at : ℕ) (r : Result (List (List ℕ) × ℕ) WireFault) → IsAnswer message at r → IfOk r (λ read. (at < read.1) × (read.1 ≤ length message))
+pub answer_after : (message : List ℕ) (at : ℕ) (r : Result (List (List ℕ) × ℕ) WireFault) → IsAnswer message at r
+    → IfOk r (λ read. (at < read.1) × (read.1 ≤ length message))
 answer_after message at (Ok (own, end)) is = name_after message at own end is
 answer_after message at (Err fault) is = tt
 
@@ -84,7 +88,9 @@ run_of message at labels here r = record {
 }
 
 -- two runs that stop at one place are one
-same_here : (message : List ℕ) (at : ℕ) (one two : List (List ℕ)) (h k : ℕ) (why why' : Option WireFault) → Run message at one h → Run message at two k → Ends message one 0 h why → Ends message two 0 k why' → (h ≡ k) × (why ≡ why')
+same_here : (message : List ℕ) (at : ℕ) (one two : List (List ℕ)) (h k : ℕ) (why why' : Option WireFault)
+    → Run message at one h → Run message at two k → Ends message one 0 h why → Ends message two 0 k why'
+    → (h ≡ k) × (why ≡ why')
 same_here message at one two h k why why' r q e f =
     let P : List (List ℕ) → Type 0 = λ l. length (wire_of l) ≤ 255 in
     let Q : List (List ℕ) → Type 0 = λ l. IsStop message l 0 h in
@@ -93,7 +99,9 @@ same_here message at one two h k why why' r q e f =
     (way.2, sym e.told ∙ ap (λ x. verdict x (get_or message x 0) (length message)) way.2 ∙ f.told)
 
 -- a run that stops for another reason is not cut
-pub not_cut : (message : List ℕ) (at : ℕ) (labels : List (List ℕ)) (here : ℕ) (why : Option WireFault) → Run message at labels here → Ends message labels 0 here why → ((place : ℕ) → why ≡ Some (Short place) → ⊥) → (place : ℕ) → ¬ RunIsCut message at place
+pub not_cut : (message : List ℕ) (at : ℕ) (labels : List (List ℕ)) (here : ℕ) (why : Option WireFault)
+    → Run message at labels here → Ends message labels 0 here why → ((place : ℕ) → why ≡ Some (Short place) → ⊥)
+    → (place : ℕ) → ¬ RunIsCut message at place
 not_cut message at labels here why r e other place (own, far, cut) =
     other place (same_here message at labels own here place why (Some (Short place)) r (run_of message at own place far) e (cut_ends message own 0 place cut)).1
 
@@ -126,7 +134,8 @@ record FirstRun (message : List ℕ) (to a : ℕ) (fs : List Field) : Type 0 whe
   pub spelt : labels_in fs ≡ labels_in fields ++ rest
   pub end : RootAt (take to message) here ⊎ ((offset : ℕ) × PointerAt (take to message) here offset)
 
-first_run : (message : List ℕ) (to s a : ℕ) (fs : List Field) (t h : ℕ) → Leads message s a fs t h → RootAt message h → unwrap_or (after_pointer a fs) (h + 1) ≤ to → FirstRun message to a fs
+first_run : (message : List ℕ) (to s a : ℕ) (fs : List Field) (t h : ℕ) → Leads message s a fs t h → RootAt message h
+    → unwrap_or (after_pointer a fs) (h + 1) ≤ to → FirstRun message to a fs
 first_run message to s a [] t h f root low = record {
   fields = [];
   here = h;
@@ -173,7 +182,8 @@ front_short (y ∷ front) (x ∷ back) fits = let longer = longer_first (y ∷ f
         omega arith
 
 -- a name that ends before a place has no first run that is cut there
-pub within_not_cut : (message : List ℕ) (at to : ℕ) (labels : List (List ℕ)) (next : ℕ) → NameWithin message at to labels next → (place : ℕ) → ¬ RunIsCut (take to message) at place
+pub within_not_cut : (message : List ℕ) (at to : ℕ) (labels : List (List ℕ)) (next : ℕ)
+    → NameWithin message at to labels next → (place : ℕ) → ¬ RunIsCut (take to message) at place
 within_not_cut message at to labels next (n, low) = by_end (first_run message to at at n.fields n.start n.root n.leads n.end (subst (λ k. k ≤ to) n.after low))
   where
     run : (r : FirstRun message to at n.fields) → Run (take to message) at (labels_in r.fields) r.here
@@ -202,7 +212,10 @@ front_size : (message : List ℕ) (to : ℕ) → to ≤ length message → lengt
 front_size message to fits = omega (arith, length-take to message)
 
 -- a field that does not lie before the place is cut in the bytes before it
-field_cut : (message : List ℕ) (to a first : ℕ) (bytes : List ℕ) → to ≤ length message → StandsAt message a (first ∷ bytes) → to < a + suc (length bytes) → (length bytes ≡ first) × (0 < first) × (first ≤ 63) ⊎ (length bytes ≡ 1) × (192 ≤ first) → IsCut (take to message) a
+field_cut : (message : List ℕ) (to a first : ℕ) (bytes : List ℕ) → to ≤ length message
+    → StandsAt message a (first ∷ bytes) → to < a + suc (length bytes)
+    → (length bytes ≡ first) × (0 < first) × (first ≤ 63) ⊎ (length bytes ≡ 1) × (192 ≤ first)
+    → IsCut (take to message) a
 field_cut message to a first bytes fits h short kind = by_place (by_size to a)
   where
     one : a < to → StandsAt (take to message) a (first ∷ [])
@@ -219,7 +232,10 @@ field_cut message to a first bytes fits h short kind = by_place (by_size to a)
     by_place (inl none) = inl (let e = front_size message to fits in omega arith)
     by_place (inr inside) = by_kind inside kind
 
-before_or_cut : (message : List ℕ) (at to : ℕ) → to ≤ length message → (s a : ℕ) (fs : List Field) (t h : ℕ) (front : List (List ℕ)) → Leads message s a fs t h → RootAt message h → Reaches (take to message) at front at a → length (wire_of (front ++ labels_in fs)) ≤ 255 → BeforeOrCut message at to (unwrap_or (after_pointer a fs) (h + 1))
+before_or_cut : (message : List ℕ) (at to : ℕ) → to ≤ length message
+    → (s a : ℕ) (fs : List Field) (t h : ℕ) (front : List (List ℕ)) → Leads message s a fs t h → RootAt message h
+    → Reaches (take to message) at front at a → length (wire_of (front ++ labels_in fs)) ≤ 255
+    → BeforeOrCut message at to (unwrap_or (after_pointer a fs) (h + 1))
 before_or_cut message at to fits s a [] t h front f root r short = next (by_size (h + 1) to)
   where
     next : (h + 1 ≤ to) ⊎ (to < h + 1) → BeforeOrCut message at to (h + 1)
@@ -228,7 +244,9 @@ before_or_cut message at to fits s a [] t h front f root r short = next (by_size
 before_or_cut message at to fits s a (by_label l ∷ fs) t h front f root r short =
     next (λ low. before_or_cut message at to fits s (a + (length l + 1)) fs t h (front ++ l ∷ []) f.1 root (reaches-label (take to message) at front at a l r (label_front message to a l low f.0) (front_short (front ++ l ∷ []) (labels_in fs) (subst (λ x. length (wire_of x) ≤ 255) (sym (append_assoc front (l ∷ []) (labels_in fs))) short))) (subst (λ x. length (wire_of x) ≤ 255) (sym (append_assoc front (l ∷ []) (labels_in fs))) short)) (by_size (a + (length l + 1)) to)
   where
-    next : (a + (length l + 1) ≤ to → BeforeOrCut message at to (unwrap_or (after_pointer (a + (length l + 1)) fs) (h + 1))) → (a + (length l + 1) ≤ to) ⊎ (to < a + (length l + 1)) → BeforeOrCut message at to (unwrap_or (after_pointer (a + (length l + 1)) fs) (h + 1))
+    next : (a + (length l + 1) ≤ to → BeforeOrCut message at to (unwrap_or (after_pointer (a + (length l + 1)) fs) (h + 1)))
+        → (a + (length l + 1) ≤ to) ⊎ (to < a + (length l + 1))
+        → BeforeOrCut message at to (unwrap_or (after_pointer (a + (length l + 1)) fs) (h + 1))
     next again (inl low) = again low
     next again (inr high) = inr (a, (front, r, field_cut message to a (length l) l fits f.0.0 (omega arith) (inl (refl, f.0.1.some, f.0.1.most))))
 before_or_cut message at to fits s a (by_pointer o ∷ fs) t h front f root r short = next (by_size (a + 2) to) f.0
@@ -238,7 +256,8 @@ before_or_cut message at to fits s a (by_pointer o ∷ fs) t h front f root r sh
     next (inr high) (first, low, there, some, is) = inr (a, (front, r, field_cut message to a first (low ∷ []) fits there high (inr (refl, some))))
 
 -- a name whose first run is not cut ends before the place
-pub before_place : (message : List ℕ) (at to : ℕ) (labels : List (List ℕ)) (next : ℕ) → to ≤ length message → ((place : ℕ) → ¬ RunIsCut (take to message) at place) → NameAt message at labels next → next ≤ to
+pub before_place : (message : List ℕ) (at to : ℕ) (labels : List (List ℕ)) (next : ℕ) → to ≤ length message
+    → ((place : ℕ) → ¬ RunIsCut (take to message) at place) → NameAt message at labels next → next ≤ to
 before_place message at to labels next fits whole n =
     elim (before_or_cut message at to fits at at n.fields n.start n.root [] n.leads n.end (reaches-start (take to message) at) (subst (λ l. length (wire_of l) ≤ 255) n.spelt n.short)) [
       | inl low ↦ subst (λ k. k ≤ to) (sym n.after) low
@@ -251,12 +270,15 @@ one_within message at to (Shape place) (Wire fault) h k = absurd (k.1 place h)
 one_within message at to (Wire fault) (Shape place) h k = absurd (h.1 place k)
 one_within message at to (Wire fault) (Wire fault') h k = ap Wire (one_fault message at fault fault' h.0 k.0)
 
-pub not_both_within : (message : List ℕ) (at to : ℕ) (labels : List (List ℕ)) (next : ℕ) (fault : WithinFault) → NameWithin message at to labels next → ¬ WithinBreaks message at to fault
+pub not_both_within : (message : List ℕ) (at to : ℕ) (labels : List (List ℕ)) (next : ℕ) (fault : WithinFault)
+    → NameWithin message at to labels next → ¬ WithinBreaks message at to fault
 not_both_within message at to labels next (Shape place) h k = within_not_cut message at to labels next h place k
 not_both_within message at to labels next (Wire fault) h k = not_both message at labels next fault h.0 k.0
 
 -- the clauses of `read_within`
-pub within_name_iff : (message : List ℕ) (at to : ℕ) (r : Result (List (List ℕ) × ℕ) WithinFault) → IsWithin message at to r → (labels : List (List ℕ)) (next : ℕ) → (r ≡ Ok (labels, next)) ↔ NameWithin message at to labels next
+pub within_name_iff : (message : List ℕ) (at to : ℕ) (r : Result (List (List ℕ) × ℕ) WithinFault)
+    → IsWithin message at to r → (labels : List (List ℕ)) (next : ℕ)
+    → (r ≡ Ok (labels, next)) ↔ NameWithin message at to labels next
 within_name_iff message at to (Ok (own, end)) is labels next = (
   λ e. let both : ◌≡◌ {A = List (List ℕ) × ℕ} (own, end) (labels, next) = cc in
       let l = ap (λ (x : List (List ℕ) × ℕ). x.0) both in
@@ -269,13 +291,15 @@ within_name_iff message at to (Ok (own, end)) is labels next = (
 )
 within_name_iff message at to (Err fault) is labels next = (λ e. absurd (cc), λ h. absurd (not_both_within message at to labels next fault h is))
 
-pub within_fault_iff : (message : List ℕ) (at to : ℕ) (r : Result (List (List ℕ) × ℕ) WithinFault) → IsWithin message at to r → (fault : WithinFault) → (r ≡ Err fault) ↔ WithinBreaks message at to fault
+pub within_fault_iff : (message : List ℕ) (at to : ℕ) (r : Result (List (List ℕ) × ℕ) WithinFault)
+    → IsWithin message at to r → (fault : WithinFault) → (r ≡ Err fault) ↔ WithinBreaks message at to fault
 within_fault_iff message at to (Ok (own, end)) is fault = (λ e. absurd (cc), λ h. absurd (not_both_within message at to own end fault is h))
 within_fault_iff message at to (Err own) is fault = (
   λ e. let f : own ≡ fault = cc in subst (λ x. WithinBreaks message at to x) f is,
   λ h. ap Err (one_within message at to own fault is h),
 )
 
-pub within_after : (message : List ℕ) (at to : ℕ) (r : Result (List (List ℕ) × ℕ) WithinFault) → IsWithin message at to r → IfOk r (λ read. (at < read.1) × (read.1 ≤ to))
+pub within_after : (message : List ℕ) (at to : ℕ) (r : Result (List (List ℕ) × ℕ) WithinFault)
+    → IsWithin message at to r → IfOk r (λ read. (at < read.1) × (read.1 ≤ to))
 within_after message at to (Ok (own, end)) is = ((name_after message at own end is.0).0, is.1)
 within_after message at to (Err fault) is = tt

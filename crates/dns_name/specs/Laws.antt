@@ -20,7 +20,9 @@ is_unescaped byte = byte == dot || (is_visible byte && not (is_special byte))
 
 -- an absolute text of such bytes is the written text of its labels
 abbrev pub PlainIsWritten : Type 0
-PlainIsWritten = (text : List ℕ) (labels : List (List ℕ)) → AllByRecursion (λ byte. IsTrue (is_unescaped byte)) text → IsAbsolute text labels → text ≡ text_of labels
+PlainIsWritten =
+    (text : List ℕ) (labels : List (List ℕ)) → AllByRecursion (λ byte. IsTrue (is_unescaped byte)) text
+    → IsAbsolute text labels → text ≡ text_of labels
 
 -- the order of names is antisymmetric, transitive, and the same for names that rank equal
 abbrev pub OrderIsTotal : Type 0
@@ -33,7 +35,8 @@ EqualAreSame = (one other : List (List ℕ)) → IsName one → IsName other →
 -- at a place of a message stands at most one name, which ends at one place ..
 abbrev pub OneName : Type 0
 OneName =
-    (message : List ℕ) (at : ℕ) (one other : List (List ℕ)) (next next' : ℕ) → NameAt message at one next → NameAt message at other next' → (one ≡ other) × (next ≡ next')
+    (message : List ℕ) (at : ℕ) (one other : List (List ℕ)) (next next' : ℕ) → NameAt message at one next
+    → NameAt message at other next' → (one ≡ other) × (next ≡ next')
 
 -- .. or it has at most one fault ..
 abbrev pub OneFault : Type 0
@@ -46,7 +49,9 @@ NotBoth = (message : List ℕ) (at : ℕ) (labels : List (List ℕ)) (next : ℕ
 -- .. and in a message of bytes always one of them
 abbrev pub NameOrFault : Type 0
 NameOrFault =
-    (message : List ℕ) (at : ℕ) → AllByRecursion IsByte message → ((labels : List (List ℕ)) × (next : ℕ) × NameAt message at labels next) ⊎ ((fault : WireFault) × NameBreaks message at fault)
+    (message : List ℕ) (at : ℕ) → AllByRecursion IsByte message
+    → ((labels : List (List ℕ)) × (next : ℕ) × NameAt message at labels next)
+    ⊎ ((fault : WireFault) × NameBreaks message at fault)
 
 -- the same of names whose first label run lies before a place: at most one fault ..
 abbrev pub OneWithin : Type 0
@@ -56,9 +61,12 @@ OneWithin =
 -- .. never a name and a fault ..
 abbrev pub NotBothWithin : Type 0
 NotBothWithin =
-    (message : List ℕ) (at to : ℕ) (labels : List (List ℕ)) (next : ℕ) (fault : WithinFault) → NameWithin message at to labels next → ¬ WithinBreaks message at to fault
+    (message : List ℕ) (at to : ℕ) (labels : List (List ℕ)) (next : ℕ) (fault : WithinFault)
+    → NameWithin message at to labels next → ¬ WithinBreaks message at to fault
 
 -- .. and always one of them
 abbrev pub WithinOrFault : Type 0
 WithinOrFault =
-    (message : List ℕ) (at to : ℕ) → to ≤ length message → AllByRecursion IsByte message → ((labels : List (List ℕ)) × (next : ℕ) × NameWithin message at to labels next) ⊎ ((fault : WithinFault) × WithinBreaks message at to fault)
+    (message : List ℕ) (at to : ℕ) → to ≤ length message → AllByRecursion IsByte message
+    → ((labels : List (List ℕ)) × (next : ℕ) × NameWithin message at to labels next)
+    ⊎ ((fault : WithinFault) × WithinBreaks message at to fault)

@@ -6,14 +6,11 @@ use Rattle.std.specs.Ordering.{nat_cmp}
 use Rattle.std.specs.Cmp.Lexicographic.{slice_cmp}
 use Rattle.enum_base.specs.Folding.{folded}
 use Rattle.enum_base.specs.Padding.{padded}
+pub use Rattle.enum_base.specs.Texts.{IsByte}
 
 -- names, as lists of labels
 abbrev pub Labels : Type 0
 Labels = List (List ℕ)
-
--- a byte
-abbrev pub IsByte : ℕ → Type 0
-IsByte b = b < 256
 
 -- a label has 1 to 63 bytes (RFC 1035, 2.3.4)
 pub record IsLabel (label : List ℕ) : Type 0 where

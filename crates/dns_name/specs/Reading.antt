@@ -1,25 +1,22 @@
 -- A plain reading of name texts from left to right. That it reads exactly what `Text` defines is proved.
-use Rattle.std.specs.Prelude.{ℕ, zero, suc, ◌+◌, nat_le, List, [], ◌∷◌, ◌++◌, length, Bool, true, false, ◌&&◌, if◌then◌else◌, ◌==◌, bytes_eq, Option, Some, None, option_and_then, Result, Ok, Err}
-use Rattle.std.specs.Char.{is_ascii_digit}
+use Rattle.std.specs.Prelude.{ℕ, zero, suc, ◌+◌, List, [], ◌∷◌, ◌++◌, length, Bool, true, false, if◌then◌else◌, ◌==◌, bytes_eq, Option, Some, None, option_and_then, Result, Ok, Err}
+use Rattle.enum_base.specs.Escapes.{backslash, escaped_byte}
 use Rattle.dns_name.specs.Name.{name_within}
-use Rattle.dns_name.specs.Text.{dot, backslash, decimal_of}
+use Rattle.dns_name.specs.Text.{dot}
 use Rattle.dns_name.specs.declared.text.Own.{Own}
 use Rattle.dns_name.specs.declared.piece.Piece.{Piece}
 use Rattle.dns_name.specs.declared.piece.Piece.TheVariants.{Dot, Byte, Broken}
 use Rattle.dns_name.specs.declared.fault.NameFault.{NameFault}
 use Rattle.dns_name.specs.declared.fault.NameFault.TheVariants.{EmptyLabel, LabelTooLong, NameTooLong, BadEscape, NoOrigin}
 
--- what stands after a backslash and a digit
-abbrev pub decimal_piece : ℕ → List ℕ → Piece
-decimal_piece x [] = Broken
-decimal_piece x (y ∷ []) = Broken
-decimal_piece x (y ∷ z ∷ rest) =
-    if is_ascii_digit y && is_ascii_digit z && nat_le (decimal_of x y z) 255 then Byte (decimal_of x y z) 3 else Broken
+-- an escape as a piece, by the byte that it stands for and how many bytes it takes after the backslash
+abbrev pub piece_of : Option (ℕ × ℕ) → Piece
+piece_of None = Broken
+piece_of (Some (byte, more)) = Byte byte more
 
 -- what stands after a backslash
 abbrev pub escape_piece : List ℕ → Piece
-escape_piece [] = Broken
-escape_piece (x ∷ rest) = if is_ascii_digit x then decimal_piece x rest else Byte x 1
+escape_piece rest = piece_of (escaped_byte rest)
 
 -- what stands at the front of a text that is not empty
 abbrev pub first_piece : List ℕ → Piece

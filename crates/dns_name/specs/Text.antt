@@ -1,19 +1,14 @@
 -- Names as text (RFC 1035, section 5.1; which bytes are escaped in writing is this project's own).
-use Rattle.std.specs.Prelude.{◌≡◌, ◌≢◌, ◌⊎◌, ℕ, ◌+◌, ◌-◌, ◌*◌, ◌/◌, ◌%◌, ◌≤◌, nat_le, List, [], ◌∷◌, ◌++◌, length, Bool, ◌&&◌, ◌||◌, IsTrue, IsFalse, if◌then◌else◌, ◌==◌, Option, Some, None, option_map}
+use Rattle.std.specs.Prelude.{◌≡◌, ◌≢◌, ◌⊎◌, ℕ, ◌≤◌, nat_le, List, [], ◌∷◌, ◌++◌, length, Bool, ◌&&◌, ◌||◌, IsTrue, IsFalse, if◌then◌else◌, ◌==◌, Option, Some, None, option_map}
 use Rattle.std.specs.Borrow.{Bor}
 use Rattle.std.specs.List.{flat_map}
 use Rattle.std.specs.Char.{is_ascii_digit}
+pub use Rattle.enum_base.specs.Escapes.{backslash, decimal_of}
+use Rattle.enum_base.specs.Escapes.{decimal_escape}
 use Rattle.dns_name.specs.Name.{IsLabel}
 
 abbrev pub dot : ℕ
 dot = 46
-
-abbrev pub backslash : ℕ
-backslash = 92
-
--- the number of three decimal digits
-abbrev pub decimal_of : ℕ → ℕ → ℕ → ℕ
-decimal_of hundreds tens ones = 100 * (hundreds - 48) + 10 * (tens - 48) + (ones - 48)
 
 -- A text stands for one byte where it is this byte, but no dot and no backslash ..
 abbrev pub IsPlain : List ℕ → ℕ → Type 0
@@ -26,7 +21,8 @@ IsQuoted text byte = (text ≡ backslash ∷ byte ∷ []) × IsFalse (is_ascii_d
 -- .. or a backslash and its number in three digits
 abbrev pub IsDecimal : List ℕ → ℕ → Type 0
 IsDecimal text byte =
-    (x : ℕ) × (y : ℕ) × (z : ℕ) × (text ≡ backslash ∷ x ∷ y ∷ z ∷ []) × IsTrue (is_ascii_digit x) × IsTrue (is_ascii_digit y) × IsTrue (is_ascii_digit z) × (byte ≡ decimal_of x y z) × (byte ≤ 255)
+    (x : ℕ) × (y : ℕ) × (z : ℕ) × (text ≡ backslash ∷ x ∷ y ∷ z ∷ []) × IsTrue (is_ascii_digit x)
+    × IsTrue (is_ascii_digit y) × IsTrue (is_ascii_digit z) × (byte ≡ decimal_of x y z) × (byte ≤ 255)
 
 -- a text stands for one byte of a label
 abbrev pub SpellsByte : List ℕ → ℕ → Type 0
@@ -52,7 +48,8 @@ IsAbsolute text (label ∷ labels) = SpellsDotted text (label ∷ labels)
 -- a relative text of these labels: no dot stands after the last
 abbrev pub IsRelative : List ℕ → List (List ℕ) → Type 0
 IsRelative text labels =
-    (front : List ℕ) × (back : List ℕ) × (dotted : List (List ℕ)) × (last : List ℕ) × (text ≡ front ++ back) × (labels ≡ dotted ++ last ∷ []) × SpellsDotted front dotted × SpellsBytes back last × IsLabel last
+    (front : List ℕ) × (back : List ℕ) × (dotted : List (List ℕ)) × (last : List ℕ) × (text ≡ front ++ back)
+    × (labels ≡ dotted ++ last ∷ []) × SpellsDotted front dotted × SpellsBytes back last × IsLabel last
 
 -- the labels of an origin that is lent
 abbrev pub labels_lent : Option (Bor (List (List ℕ))) → Option (List (List ℕ))
@@ -121,7 +118,7 @@ abbrev pub byte_text : ℕ → List ℕ
 byte_text byte =
     if is_special byte then backslash ∷ byte ∷ []
     else if is_visible byte then byte ∷ []
-    else backslash ∷ (48 + byte / 100) ∷ (48 + byte / 10 % 10) ∷ (48 + byte % 10) ∷ []
+    else decimal_escape byte
 
 -- how a label is written: its bytes and a dot
 abbrev pub label_text : List ℕ → List ℕ

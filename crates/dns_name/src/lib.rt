@@ -6,6 +6,7 @@ mod fault;
 mod field;
 mod label;
 mod laws;
+mod message_bytes;
 mod name;
 mod names;
 mod order;
@@ -21,8 +22,8 @@ pub use laws::{
     folded_order_is_total, name_at_is_one, name_within_is_one, plain_text_is_written,
     written_is_read_again,
 };
+pub use message_bytes::MessageBytes;
 pub use name::Name;
 pub use names::Names;
-pub use targets::{Targets, targets_of};
 pub use wire_fault::{WireFault, WithinFault};
 pub use written::NameText;

@@ -7,14 +7,14 @@ use enum_base::{List, MemoryFault};
 use std::alloc::Global;
 
 /// To each of the first places of a message, the place that the pointers there lead to at last. The list may be empty.
-pub type Targets = List<u16>;
+pub(crate) type Targets = List<u16>;
 
 /// The targets of a message, by one pass: names that are read by them follow no chain of pointers twice (RFC 1035, 4.1.4). There
 /// are none, which takes no memory, where no pointer leads to another.
 ///
 /// # Errors
-/// Want of memory.
-pub fn targets_of(alloc: Global, message: &[u8]) -> Result<Targets, MemoryFault>
+/// Out of memory.
+pub(crate) fn targets_of(alloc: Global, message: &[u8]) -> Result<Targets, MemoryFault>
     ensures { IfOk result (λ targets. AreTargets message.now targets) }
 {
     let mut targets = Targets::new(alloc);

@@ -5,13 +5,13 @@ ghost use Rattle.dns_name.specs.Targets.{AreTargets};
 ghost use Rattle.dns_name.specs.Wire.{RunIsCut};
 
 use crate::field::{Field, field_at};
+use crate::message_bytes::MessageBytes;
 use crate::name::Name;
 use crate::targets::target_of;
 use crate::wire_fault::{WireFault, WithinFault};
 use enum_base::Buffer;
 
 impl Name {
-    ghost use Rattle.dns_name.specs.Targets.{AreTargets};
     ghost use Rattle.dns_name.specs.Wire.{NameAt, NameBreaks, NameWithin, WithinBreaks};
 
     /// The name at that place of a message, and the place after it: after its first pointer, or where it has none after its
@@ -25,25 +25,7 @@ impl Name {
         ensures fault { (fault : WireFault) → (result ≡ Err fault) ↔ NameBreaks message.now at fault }
         ensures within { IfOk result (λ read. (at < read.1) × (read.1 ≤ length message.now)) }
     {
-        read(message, &[], at)
-    }
-
-    /// The same as `read_at`, where the targets of the message (`targets_of`) are at hand: no chain of pointers is followed twice.
-    ///
-    /// # Errors
-    /// As `read_at`.
-    pub fn read_at_by(
-        message: &[u8],
-        targets: &[u16],
-        at: usize,
-    ) -> Result<(Name, usize), WireFault>
-        requires place { at ≤ length message.now }
-        requires targets { AreTargets message.now targets.now }
-        ensures name { (labels : List (List ℕ)) (next : ℕ) → (result ≡ Ok (labels, next)) ↔ NameAt message.now at labels next }
-        ensures fault { (fault : WireFault) → (result ≡ Err fault) ↔ NameBreaks message.now at fault }
-        ensures within { IfOk result (λ read. (at < read.1) × (read.1 ≤ length message.now)) }
-    {
-        read(message, targets, at)
+        read_inner(message, &[], at)
     }
 
     /// The name at that place, whose first label run lies before `to`. Runs that pointers lead to begin before the run that the
@@ -58,33 +40,43 @@ impl Name {
         ensures fault { (fault : WithinFault) → (result ≡ Err fault) ↔ WithinBreaks message.now at to fault }
         ensures within { IfOk result (λ read. (at < read.1) × (read.1 ≤ to)) }
     {
-        within(message, &[], at, to)
-    }
-
-    /// The same as `read_within`, where the targets of the message (`targets_of`) are at hand: no chain of pointers is followed
-    /// twice.
-    ///
-    /// # Errors
-    /// As `read_within`.
-    pub fn read_within_by(
-        message: &[u8],
-        targets: &[u16],
-        at: usize,
-        to: usize,
-    ) -> Result<(Name, usize), WithinFault>
-        requires begin { at ≤ to }
-        requires end { to ≤ length message.now }
-        requires targets { AreTargets message.now targets.now }
-        ensures name { (labels : List (List ℕ)) (next : ℕ) → (result ≡ Ok (labels, next)) ↔ NameWithin message.now at to labels next }
-        ensures fault { (fault : WithinFault) → (result ≡ Err fault) ↔ WithinBreaks message.now at to fault }
-        ensures within { IfOk result (λ read. (at < read.1) × (read.1 ≤ to)) }
-    {
-        within(message, targets, at, to)
+        within_inner(message, &[], at, to)
     }
 }
 
-// The same, by one clause.
-fn within(
+impl MessageBytes<'_> {
+    ghost use Rattle.dns_name.specs.Wire.{NameAt, NameBreaks, NameWithin, WithinBreaks};
+
+    /// The same as `Name::read_at`: the name at that place, and the place after it.
+    ///
+    /// # Errors
+    /// As `Name::read_at`.
+    pub fn name_at(&self, at: usize) -> Result<(Name, usize), WireFault>
+        requires { at ≤ length self.now }
+        ensures name { (labels : List (List ℕ)) (next : ℕ) → (result ≡ Ok (labels, next)) ↔ NameAt self.now at labels next }
+        ensures fault { (fault : WireFault) → (result ≡ Err fault) ↔ NameBreaks self.now at fault }
+        ensures within { IfOk result (λ read. (at < read.1) × (read.1 ≤ length self.now)) }
+    {
+        read_inner(self.bytes, self.targets(), at)
+    }
+
+    /// The same as `Name::read_within`: the name at that place, whose first label run lies before `to`.
+    ///
+    /// # Errors
+    /// As `Name::read_within`.
+    pub fn name_within(&self, at: usize, to: usize) -> Result<(Name, usize), WithinFault>
+        requires begin { at ≤ to }
+        requires end { to ≤ length self.now }
+        ensures name { (labels : List (List ℕ)) (next : ℕ) → (result ≡ Ok (labels, next)) ↔ NameWithin self.now at to labels next }
+        ensures fault { (fault : WithinFault) → (result ≡ Err fault) ↔ WithinBreaks self.now at to fault }
+        ensures within { IfOk result (λ read. (at < read.1) × (read.1 ≤ to)) }
+    {
+        within_inner(self.bytes, self.targets(), at, to)
+    }
+}
+
+// The name whose first label run lies before `to`, and the place after it, by one clause.
+fn within_inner(
     message: &[u8],
     targets: &[u16],
     at: usize,
@@ -98,7 +90,7 @@ fn within(
     if let Some(place) = cut_in_run(&message[..to], at) {
         return Err(WithinFault::Shape { at: place });
     }
-    match read(message, targets, at) {
+    match read_inner(message, targets, at) {
         Ok(read) => Ok(read),
         Err(fault) => Err(WithinFault::Wire(fault)),
     }
@@ -136,7 +128,7 @@ fn cut_place(fault: WireFault) -> Option<usize>
 }
 
 // The name at that place and the place after it.
-fn read(message: &[u8], targets: &[u16], at: usize) -> Result<(Name, usize), WireFault>
+fn read_inner(message: &[u8], targets: &[u16], at: usize) -> Result<(Name, usize), WireFault>
     requires place { at ≤ length message.now }
     requires targets { AreTargets message.now targets.now }
     ensures { IsAnswer message.now at result }

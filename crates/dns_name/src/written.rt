@@ -2,7 +2,7 @@
 ghost use Rattle.std.specs.Prelude.{◌≡◌, ◌≤◌, ◌+◌, ◌*◌, ◌++◌, length};
 ghost use Rattle.dns_name.specs.Text.{byte_text, label_text};
 
-use enum_base::Buffer;
+use enum_base::{Buffer, decimal_escape};
 
 /// The text of a name, at most 1024 bytes: a name has at most 255 on the wire, and each is written as at most four.
 pub type NameText = Buffer<1024>;
@@ -18,12 +18,7 @@ fn push_byte(text: &mut NameText, byte: u8)
             text.push(byte);
         }
         0x21..=0x7E => text.push(byte),
-        _ => {
-            text.push(b'\\');
-            text.push(b'0' + byte / 100);
-            text.push(b'0' + byte / 10 % 10);
-            text.push(b'0' + byte % 10);
-        }
+        _ => text.push_slice(&decimal_escape(byte)),
     }
 }
 

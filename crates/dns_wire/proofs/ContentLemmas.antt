@@ -21,7 +21,8 @@ use Rattle.dns_wire.proofs.TextLawLemmas.{IsSingle-texts, IsTotal-texts}
 IsSingle-last : {A : Type 0} (field : ℕ → Result (A × ℕ) InFault → Type 0) (to at : ℕ) → IsSingle (field at) → IsSingle (LastIn field to at)
 IsSingle-last field to at one = IsSingle-then _ _ one (λ last. IsSingle-ends Shape to last.0 last.1)
 
-IsTotal-last : {A : Type 0} (field : ℕ → Result (A × ℕ) InFault → Type 0) (to at : ℕ) → IsTotal (field at) → ((read : A × ℕ) → field at (Ok read) → read.1 ≤ to) → IsTotal (LastIn field to at)
+IsTotal-last : {A : Type 0} (field : ℕ → Result (A × ℕ) InFault → Type 0) (to at : ℕ) → IsTotal (field at)
+    → ((read : A × ℕ) → field at (Ok read) → read.1 ≤ to) → IsTotal (LastIn field to at)
 IsTotal-last field to at some within = IsTotal-then _ _ some (λ last h. IsTotal-ends Shape to last.0 last.1 (within last h))
 
 -- fields end in the RDATA
@@ -91,7 +92,7 @@ IsSingle-content form.Ns message from to =
 IsSingle-content form.Cname message from to =
     IsSingle-then _ _ (IsSingle-last (NameIn message to) to from (IsSingle-name_in message to from)) (λ target. IsSingle-is _)
 IsSingle-content form.Soa message from to =
-    IsSingle-then _ _ (IsSingle-last (SoaIn message to) to from (IsSingle-soa message to from)) (λ start. IsSingle-is _)
+    IsSingle-then _ _ (IsSingle-last (SoaIn message to) to from (IsSingle-soa message to from)) (λ soa. IsSingle-is _)
 IsSingle-content form.Ptr message from to =
     IsSingle-then _ _ (IsSingle-last (NameIn message to) to from (IsSingle-name_in message to from)) (λ name. IsSingle-is _)
 IsSingle-content form.Mx message from to =
@@ -109,7 +110,8 @@ IsSingle-content form.Naptr message from to = IsSingle-then _ _ (IsSingle-rule_i
 IsSingle-content form.Opt message from to = IsSingle-is _
 IsSingle-content form.Raw message from to = IsSingle-is _
 
-pub IsTotal-content : (of : Form) (message : List ℕ) (from to : ℕ) → AllByRecursion IsByte message → to ≤ length message → from ≤ to → IsTotal (ContentIn of message from to)
+pub IsTotal-content : (of : Form) (message : List ℕ) (from to : ℕ) → AllByRecursion IsByte message → to ≤ length message
+    → from ≤ to → IsTotal (ContentIn of message from to)
 IsTotal-content form.A message from to all fits low =
     IsTotal-then _ _ (IsTotal-last (AddressIn 4 message to) to from (IsTotal-address 4 message to from fits) (address-within 4 message to from)) (λ address h. IsTotal-is _)
 IsTotal-content form.Ns message from to all fits low =
@@ -117,7 +119,7 @@ IsTotal-content form.Ns message from to all fits low =
 IsTotal-content form.Cname message from to all fits low =
     IsTotal-then _ _ (IsTotal-last (NameIn message to) to from (IsTotal-name_in message to from all fits) (name-within message to from)) (λ target h. IsTotal-is _)
 IsTotal-content form.Soa message from to all fits low =
-    IsTotal-then _ _ (IsTotal-last (SoaIn message to) to from (IsTotal-soa message to from all fits) (soa-within message to from)) (λ start h. IsTotal-is _)
+    IsTotal-then _ _ (IsTotal-last (SoaIn message to) to from (IsTotal-soa message to from all fits) (soa-within message to from)) (λ soa h. IsTotal-is _)
 IsTotal-content form.Ptr message from to all fits low =
     IsTotal-then _ _ (IsTotal-last (NameIn message to) to from (IsTotal-name_in message to from all fits) (name-within message to from)) (λ name h. IsTotal-is _)
 IsTotal-content form.Mx message from to all fits low =

@@ -22,7 +22,8 @@ of_two_bytes : (n : ℕ) → n < 2 ^ 16 → 256 * byte_at 1 n + byte_at 0 n ≡ 
 of_two_bytes n small = omega arith
 
 -- messages on a stream are read from it
-messages_within-framed_all : (messages : List (List ℕ)) (more : ℕ) → AllByRecursion FitsFrame messages → length (framed_all messages) ≤ more → messages_within more (framed_all messages) ≡ messages
+messages_within-framed_all : (messages : List (List ℕ)) (more : ℕ) → AllByRecursion FitsFrame messages
+    → length (framed_all messages) ≤ more → messages_within more (framed_all messages) ≡ messages
 unfolding messages_within
 messages_within-framed_all [] zero fit room = refl
 messages_within-framed_all [] (suc more) fit room = refl
@@ -63,7 +64,8 @@ front_of_all m ms rest fits = record { fits = fits; parts = append_assoc (framed
 pub one_cut : OneCut
 one_cut bytes one other rest rest' h k = same one other (sym h.parts ∙ k.parts) h.fit k.fit
   where
-    same : (one other : List (List ℕ)) → framed_all one ++ rest ≡ framed_all other ++ rest' → AllByRecursion FitsFrame one → AllByRecursion FitsFrame other → (one ≡ other) × (rest ≡ rest')
+    same : (one other : List (List ℕ)) → framed_all one ++ rest ≡ framed_all other ++ rest'
+        → AllByRecursion FitsFrame one → AllByRecursion FitsFrame other → (one ≡ other) × (rest ≡ rest')
     same [] [] is f g = (refl, is)
     same [] (m ∷ ms) is f g =
         let P : List ℕ → Type 0 = λ b. BeginsWith b m (framed_all ms ++ rest') in
@@ -92,13 +94,15 @@ IsNoWhole-cut (high ∷ low ∷ tail) size is room cut message after h =
     let first : high ≡ byte_at 1 (length message) = cc parts in
     let second : low ≡ byte_at 0 (length message) = cc parts in
     let rest : tail ≡ message ++ after = cc parts in
-    let told : 256 * high + low ≡ length message = ap (λ b. 256 * b + low) first ∙ ap (λ b. 256 * byte_at 1 (length message) + b) second ∙ of_two_bytes (length message) h.fits in
+    let told : 256 * high + low ≡ length message = ap (λ b. 256 * b + low) first
+    ∙ ap (λ b. 256 * byte_at 1 (length message) + b) second ∙ of_two_bytes (length message) h.fits in
     let all : length tail ≡ length message + length after = ap length rest ∙ length-append message after in
     let number : size ≡ 256 * high + low = is ∙ omega arith in
     absurd (omega arith)
 
 -- a message after its length
-begins_with : (high low size : ℕ) (tail : List ℕ) → high < 256 → low < 256 → size ≡ 256 * high + low → size ≤ length tail → BeginsWith (high ∷ low ∷ tail) (take size tail) (drop size tail)
+begins_with : (high low size : ℕ) (tail : List ℕ) → high < 256 → low < 256 → size ≡ 256 * high + low
+    → size ≤ length tail → BeginsWith (high ∷ low ∷ tail) (take size tail) (drop size tail)
 begins_with high low size tail h l number room =
     let whole : length (take size tail) ≡ size = length-take size tail ∙ omega arith in
     record {
@@ -116,7 +120,10 @@ each_after [] (suc n) each = tt
 each_after (b ∷ bytes) (suc n) each = each_after bytes n each.1
 
 -- a stream with a length at its front has a cut, if each shorter one has
-cut_after : (more high low size : ℕ) (tail : List ℕ) → ((bytes : List ℕ) → AllByRecursion IsByte bytes → length bytes ≤ more → HasCut bytes) → AllByRecursion IsByte (high ∷ low ∷ tail) → length tail ≤ more → size ≡ 256 * high + low → (size ≤ length tail) ⊎ (length tail < size) → HasCut (high ∷ low ∷ tail)
+cut_after : (more high low size : ℕ) (tail : List ℕ)
+    → ((bytes : List ℕ) → AllByRecursion IsByte bytes → length bytes ≤ more → HasCut bytes)
+    → AllByRecursion IsByte (high ∷ low ∷ tail) → length tail ≤ more → size ≡ 256 * high + low
+    → (size ≤ length tail) ⊎ (length tail < size) → HasCut (high ∷ low ∷ tail)
 cut_after more high low size tail on each room number (inl fits) =
     let first = begins_with high low size tail each.0 each.1.0 number fits in
     let left = on (drop size tail) (each_after tail size each.1.1) (omega (arith, length-drop size tail)) in
@@ -124,7 +131,8 @@ cut_after more high low size tail on each room number (inl fits) =
       messages = take size tail ∷ left.messages;
       rest = left.rest;
       cut = record {
-        parts = first.parts ∙ ap (λ x. framed (take size tail) ++ x) left.cut.parts ∙ sym (append_assoc (framed (take size tail)) (framed_all left.messages) left.rest);
+        parts = first.parts ∙ ap (λ x. framed (take size tail) ++ x) left.cut.parts
+            ∙ sym (append_assoc (framed (take size tail)) (framed_all left.messages) left.rest);
         fit = (first.fits, left.cut.fit);
         end = left.cut.end;
       };
@@ -162,7 +170,8 @@ pub cut_at-new : ◌≡◌ {A = Stream} (cut_at [] 0) (record { given = []; rest
 unfolding messages_of messages_within
 cut_at-new = refl
 
-AreWhole-read : (bytes : List ℕ) (messages : List (List ℕ)) → AllByRecursion FitsFrame messages → framed_all messages ≡ bytes → AreWhole bytes × (messages_of bytes ≡ messages)
+AreWhole-read : (bytes : List ℕ) (messages : List (List ℕ)) → AllByRecursion FitsFrame messages
+    → framed_all messages ≡ bytes → AreWhole bytes × (messages_of bytes ≡ messages)
 AreWhole-read bytes messages fit is =
     let read : messages_of bytes ≡ messages = ap messages_of (sym is) ∙ messages_of-framed_all messages fit in
     let P : List (List ℕ) → Type 0 = AllByRecursion FitsFrame in
@@ -191,7 +200,9 @@ record Step (bytes : List ℕ) (place next : ℕ) (message after : List ℕ) : T
   given : messages_of (take next bytes) ≡ messages_of (take place bytes) ++ message ∷ []
   rest : drop next bytes ≡ after
 
-step : (bytes : List ℕ) (place next : ℕ) (message after : List ℕ) → IsFrontWhole bytes place → BeginsWith (drop place bytes) message after → next ≡ place + (2 + length message) → Step bytes place next message after
+step : (bytes : List ℕ) (place next : ℕ) (message after : List ℕ) → IsFrontWhole bytes place
+    → BeginsWith (drop place bytes) message after → next ≡ place + (2 + length message)
+    → Step bytes place next message after
 step bytes place next message after h first at =
     let given = messages_of (take place bytes) in
     let front = framed_all given ++ framed message in
@@ -214,7 +225,9 @@ step bytes place next message after h first at =
       rest = ap (drop next) all ∙ drop_at front after next seam;
     }
 
-pub HasGiven-front : (bytes : List ℕ) (place size : ℕ) → IsFrontWhole bytes place → BeginsWith (drop place bytes) (take size (drop 2 (drop place bytes))) (drop size (drop 2 (drop place bytes))) → 2 + size ≤ length (drop place bytes) → HasGiven bytes place (place + 2 + size)
+pub HasGiven-front : (bytes : List ℕ) (place size : ℕ) → IsFrontWhole bytes place
+    → BeginsWith (drop place bytes) (take size (drop 2 (drop place bytes))) (drop size (drop 2 (drop place bytes)))
+    → 2 + size ≤ length (drop place bytes) → HasGiven bytes place (place + 2 + size)
 HasGiven-front bytes place size h first room =
     let next = place + 2 + size in
     let message = take size (drop 2 (drop place bytes)) in
@@ -236,7 +249,9 @@ HasGiven-front bytes place size h first room =
     }
 
 -- the same, as a slice of what is held
-pub HasGiven-held : (bytes held : List ℕ) (place size : ℕ) → held ≡ bytes → IsFrontWhole bytes place → BeginsWith (take (length held - place) (drop place held)) (take size (drop 2 (take (length held - place) (drop place held)))) (drop size (drop 2 (take (length held - place) (drop place held)))) → 2 + size ≤ length (take (length held - place) (drop place held)) → HasGiven bytes place (place + 2 + size)
+pub HasGiven-held : (bytes held : List ℕ) (place size : ℕ) → held ≡ bytes → IsFrontWhole bytes place
+    → BeginsWith (take (length held - place) (drop place held)) (take size (drop 2 (take (length held - place) (drop place held)))) (drop size (drop 2 (take (length held - place) (drop place held))))
+    → 2 + size ≤ length (take (length held - place) (drop place held)) → HasGiven bytes place (place + 2 + size)
 HasGiven-held bytes held place size is h first room =
     let rest : take (length held - place) (drop place held) ≡ drop place bytes = take_rest held place ∙ ap (drop place) is in
     let P : List ℕ → Type 0 = λ r. BeginsWith r (take size (drop 2 r)) (drop size (drop 2 r)) in

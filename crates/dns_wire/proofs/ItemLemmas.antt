@@ -8,7 +8,9 @@ use Rattle.dns_wire.specs.declared.decode_fault.DecodeFault.{DecodeFault}
 use Rattle.dns_wire.specs.declared.decode_fault.DecodeFault.TheVariants.{Memory}
 
 -- one item more
-items-more : {A F : Type 0} (one : ℕ → Result (A × ℕ) F → Type 0) (n start : ℕ) (items : List A) (at : ℕ) (item : A) (next : ℕ) → ItemsAt one n start (Ok (items, at)) → one at (Ok (item, next)) → ItemsAt one (suc n) start (Ok (items ++ item ∷ [], next))
+items-more : {A F : Type 0} (one : ℕ → Result (A × ℕ) F → Type 0) (n start : ℕ) (items : List A) (at : ℕ) (item : A) (next : ℕ)
+    → ItemsAt one n start (Ok (items, at)) → one at (Ok (item, next))
+    → ItemsAt one (suc n) start (Ok (items ++ item ∷ [], next))
 items-more {A} {F} one zero start items at item next is h =
     let pair : ◌≡◌ {A = List A × ℕ} (items, at) ([], start) = cc in
     let none : items ≡ [] = ap (λ (x : List A × ℕ). x.0) pair in
@@ -24,7 +26,8 @@ items-more one (suc n) start items at item next (goes first k (stops fault l is)
 items-more one (suc n) start items at item next (stops fault k is) h = absurd cc
 
 -- the next item breaks
-items-stop : {A F : Type 0} (one : ℕ → Result (A × ℕ) F → Type 0) (n total start : ℕ) (items : List A) (at : ℕ) (fault : F) → n < total → ItemsAt one n start (Ok (items, at)) → one at (Err fault) → ItemsAt one total start (Err fault)
+items-stop : {A F : Type 0} (one : ℕ → Result (A × ℕ) F → Type 0) (n total start : ℕ) (items : List A) (at : ℕ) (fault : F)
+    → n < total → ItemsAt one n start (Ok (items, at)) → one at (Err fault) → ItemsAt one total start (Err fault)
 items-stop one n zero start items at fault low is h = absurd (omega arith)
 items-stop {A} {F} one zero (suc total) start items at fault low is h =
     let pair : ◌≡◌ {A = List A × ℕ} (items, at) ([], start) = cc in
@@ -42,13 +45,17 @@ pub record IsReadingItems {A : Type 0} (one : ℕ → Result (A × ℕ) DecodeFa
   pub read : ItemsAt one n start (Ok (items, at))
   pub low : at ≤ limit
 
-pub reading-more : {A : Type 0} (one : ℕ → Result (A × ℕ) DecodeFault → Type 0) (start limit n m : ℕ) (items : List A) (at : ℕ) (item : A) (next : ℕ) → IsReadingItems one start limit n items at → m ≡ suc n → one at (Ok (item, next)) → next ≤ limit → IsReadingItems one start limit m (items ++ item ∷ []) next
+pub reading-more : {A : Type 0} (one : ℕ → Result (A × ℕ) DecodeFault → Type 0) (start limit n m : ℕ) (items : List A) (at : ℕ) (item : A) (next : ℕ)
+    → IsReadingItems one start limit n items at → m ≡ suc n → one at (Ok (item, next)) → next ≤ limit
+    → IsReadingItems one start limit m (items ++ item ∷ []) next
 reading-more one start limit n m items at item next r step h low = record {
   read = subst (λ k. ItemsAt one k start (Ok (items ++ item ∷ [], next))) (sym step) (items-more one n start items at item next r.read h);
   low = low;
 }
 
-pub reading-stops : {A : Type 0} (one : ℕ → Result (A × ℕ) DecodeFault → Type 0) (start limit n total : ℕ) (items : List A) (at : ℕ) (fault : DecodeFault) (result : Result (List A × ℕ) DecodeFault) → IsReadingItems one start limit n items at → n < total → OrMemory (one at) (Err fault) → IsErrAnd result (λ told. told ≡ fault) → OrMemory (ItemsAt one total start) result
+pub reading-stops : {A : Type 0} (one : ℕ → Result (A × ℕ) DecodeFault → Type 0) (start limit n total : ℕ) (items : List A) (at : ℕ) (fault : DecodeFault) (result : Result (List A × ℕ) DecodeFault)
+    → IsReadingItems one start limit n items at → n < total → OrMemory (one at) (Err fault)
+    → IsErrAnd result (λ told. told ≡ fault) → OrMemory (ItemsAt one total start) result
 reading-stops one start limit n total items at fault (Ok value) r low h is = absurd is
 reading-stops one start limit n total items at fault (Err told) r low (inl h) is =
     inl (subst (λ f. ItemsAt one total start (Err f)) (sym is) (items-stop one n total start items at fault low r.read h))

@@ -1,13 +1,13 @@
 pub mod ContentLemmas
-pub mod ContentStands
+pub mod ContentStandLemmas
 pub mod EncodeLemmas
-pub mod FieldStands
+pub mod FieldStandLemmas
 pub mod FrameLemmas
 pub mod ItemLemmas
 pub mod LawLemmas
 pub mod MemoryLemmas
 pub mod MessageLemmas
-pub mod MessageStands
+pub mod MessageStandLemmas
 pub mod ReadingLemmas
 pub mod RecordLemmas
 pub mod StandLemmas

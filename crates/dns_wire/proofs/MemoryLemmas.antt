@@ -18,7 +18,8 @@ use Rattle.dns_wire.specs.declared.decode_fault.DecodeFault.TheVariants.{Memory}
 record IsFree {A : Type 0} (One : Result A DecodeFault → Type 0) : Type 0 where
   lacks : ¬ One (Err Memory)
 
-free-then : {A B : Type 0} (One : Result A DecodeFault → Type 0) (Next : A → Result B DecodeFault → Type 0) → IsFree One → ((value : A) → IsFree (Next value)) → IsFree (Then One Next)
+free-then : {A B : Type 0} (One : Result A DecodeFault → Type 0) (Next : A → Result B DecodeFault → Type 0) → IsFree One
+    → ((value : A) → IsFree (Next value)) → IsFree (Then One Next)
 free-then {A} {B} One Next one next = record { lacks = lacks }
   where
     lacks : ¬ Then One Next (Err Memory)

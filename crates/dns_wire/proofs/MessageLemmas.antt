@@ -30,22 +30,31 @@ abbrev pub Additional : List ℕ → Header × Counts → ℕ → Result (List R
 Additional bytes header at = ItemsAt (RecordAt bytes) header.1.additional at
 
 -- what breaks a section breaks the message
-pub header_stops : (bytes : List ℕ) (fault : DecodeFault) (result : Result Message DecodeFault) → HeaderAt bytes (Err fault) → IsErrAnd result (λ told. told ≡ fault) → OrMemory (MessageIs bytes) result
+pub header_stops : (bytes : List ℕ) (fault : DecodeFault) (result : Result Message DecodeFault)
+    → HeaderAt bytes (Err fault) → IsErrAnd result (λ told. told ≡ fault) → OrMemory (MessageIs bytes) result
 header_stops bytes fault (Ok value) h is = absurd is
 header_stops bytes fault (Err told) h is = inl (stops fault h (ap Err is))
 
-pub questions_stop : (bytes : List ℕ) (header : Header × Counts) (fault : DecodeFault) (result : Result Message DecodeFault) → HeaderAt bytes (Ok header) → OrMemory (Questions bytes header) (Err fault) → IsErrAnd result (λ told. told ≡ fault) → OrMemory (MessageIs bytes) result
+pub questions_stop : (bytes : List ℕ) (header : Header × Counts) (fault : DecodeFault) (result : Result Message DecodeFault)
+    → HeaderAt bytes (Ok header) → OrMemory (Questions bytes header) (Err fault)
+    → IsErrAnd result (λ told. told ≡ fault) → OrMemory (MessageIs bytes) result
 questions_stop bytes header fault (Ok value) h k is = absurd is
 questions_stop bytes header fault (Err told) h (inl k) is = inl (goes header h (stops fault k (ap Err is)))
 questions_stop bytes header fault (Err told) h (inr none) is = let first : fault ≡ Memory = cc in inr (ap Err (is ∙ first))
 
-pub answers_stop : (bytes : List ℕ) (header : Header × Counts) (questions : List Question × ℕ) (fault : DecodeFault) (result : Result Message DecodeFault) → HeaderAt bytes (Ok header) → OrMemory (Questions bytes header) (Ok questions) → OrMemory (Answers bytes header questions.1) (Err fault) → IsErrAnd result (λ told. told ≡ fault) → OrMemory (MessageIs bytes) result
+pub answers_stop : (bytes : List ℕ) (header : Header × Counts) (questions : List Question × ℕ) (fault : DecodeFault) (result : Result Message DecodeFault)
+    → HeaderAt bytes (Ok header) → OrMemory (Questions bytes header) (Ok questions)
+    → OrMemory (Answers bytes header questions.1) (Err fault) → IsErrAnd result (λ told. told ≡ fault)
+    → OrMemory (MessageIs bytes) result
 answers_stop bytes header questions fault (Ok value) h k l is = absurd is
 answers_stop bytes header questions fault (Err told) h k (inl l) is =
     inl (goes header h (goes questions (sure (Questions bytes header) questions k) (stops fault l (ap Err is))))
 answers_stop bytes header questions fault (Err told) h k (inr none) is = let first : fault ≡ Memory = cc in inr (ap Err (is ∙ first))
 
-pub authority_stops : (bytes : List ℕ) (header : Header × Counts) (questions : List Question × ℕ) (answers : List Record × ℕ) (fault : DecodeFault) (result : Result Message DecodeFault) → HeaderAt bytes (Ok header) → OrMemory (Questions bytes header) (Ok questions) → OrMemory (Answers bytes header questions.1) (Ok answers) → OrMemory (Authority bytes header answers.1) (Err fault) → IsErrAnd result (λ told. told ≡ fault) → OrMemory (MessageIs bytes) result
+pub authority_stops : (bytes : List ℕ) (header : Header × Counts) (questions : List Question × ℕ) (answers : List Record × ℕ) (fault : DecodeFault) (result : Result Message DecodeFault)
+    → HeaderAt bytes (Ok header) → OrMemory (Questions bytes header) (Ok questions)
+    → OrMemory (Answers bytes header questions.1) (Ok answers) → OrMemory (Authority bytes header answers.1) (Err fault)
+    → IsErrAnd result (λ told. told ≡ fault) → OrMemory (MessageIs bytes) result
 authority_stops bytes header questions answers fault (Ok value) h k l m is = absurd is
 authority_stops bytes header questions answers fault (Err told) h k l (inl m) is =
     inl (goes header h (goes questions (sure (Questions bytes header) questions k) (goes answers (sure (Answers bytes header questions.1) answers l) (stops fault m (ap Err is)))))
@@ -58,17 +67,24 @@ pub record Sections (bytes : List ℕ) (header : Header × Counts) (questions : 
   pub answers_read : OrMemory (Answers bytes header questions.1) (Ok answers)
   pub authority_read : OrMemory (Authority bytes header answers.1) (Ok authority)
 
-pub additional_stops : (bytes : List ℕ) (header : Header × Counts) (questions : List Question × ℕ) (answers authority : List Record × ℕ) (fault : DecodeFault) (result : Result Message DecodeFault) → Sections bytes header questions answers authority → OrMemory (Additional bytes header authority.1) (Err fault) → IsErrAnd result (λ told. told ≡ fault) → OrMemory (MessageIs bytes) result
+pub additional_stops : (bytes : List ℕ) (header : Header × Counts) (questions : List Question × ℕ) (answers authority : List Record × ℕ) (fault : DecodeFault) (result : Result Message DecodeFault)
+    → Sections bytes header questions answers authority → OrMemory (Additional bytes header authority.1) (Err fault)
+    → IsErrAnd result (λ told. told ≡ fault) → OrMemory (MessageIs bytes) result
 additional_stops bytes header questions answers authority fault (Ok value) s m is = absurd is
 additional_stops bytes header questions answers authority fault (Err told) s (inl m) is =
     inl (goes header s.header_read (goes questions (sure (Questions bytes header) questions s.questions_read) (goes answers (sure (Answers bytes header questions.1) answers s.answers_read) (goes authority (sure (Authority bytes header answers.1) authority s.authority_read) (stops fault m (ap Err is))))))
 additional_stops bytes header questions answers authority fault (Err told) s (inr none) is = let first : fault ≡ Memory = cc in inr (ap Err (is ∙ first))
 
-pub trails : (bytes : List ℕ) (header : Header × Counts) (questions : List Question × ℕ) (answers authority additional : List Record × ℕ) → Sections bytes header questions answers authority → OrMemory (Additional bytes header authority.1) (Ok additional) → additional.1 < length bytes → OrMemory (MessageIs bytes) (Err (Trailing additional.1))
+pub trails : (bytes : List ℕ) (header : Header × Counts) (questions : List Question × ℕ) (answers authority additional : List Record × ℕ)
+    → Sections bytes header questions answers authority → OrMemory (Additional bytes header authority.1) (Ok additional)
+    → additional.1 < length bytes → OrMemory (MessageIs bytes) (Err (Trailing additional.1))
 trails bytes header questions answers authority additional s m more =
     inl (goes header s.header_read (goes questions (sure (Questions bytes header) questions s.questions_read) (goes answers (sure (Answers bytes header questions.1) answers s.answers_read) (goes authority (sure (Authority bytes header answers.1) authority s.authority_read) (goes additional (sure (Additional bytes header authority.1) additional m) (inr (more, refl)))))))
 
-pub spells : (bytes : List ℕ) (header : Header × Counts) (questions : List Question × ℕ) (answers authority additional : List Record × ℕ) (fits : IsTrue (are_counted questions.0 answers.0 authority.0 additional.0)) → Sections bytes header questions answers authority → OrMemory (Additional bytes header authority.1) (Ok additional) → additional.1 ≤ length bytes → length bytes ≤ additional.1 → OrMemory (MessageIs bytes) (Ok (record { header = header.0; questions = questions.0; answers = answers.0; authority = authority.0; additional = additional.0; counted = fits }))
+pub spells : (bytes : List ℕ) (header : Header × Counts) (questions : List Question × ℕ) (answers authority additional : List Record × ℕ) (fits : IsTrue (are_counted questions.0 answers.0 authority.0 additional.0))
+    → Sections bytes header questions answers authority → OrMemory (Additional bytes header authority.1) (Ok additional)
+    → additional.1 ≤ length bytes → length bytes ≤ additional.1
+    → OrMemory (MessageIs bytes) (Ok (record { header = header.0; questions = questions.0; answers = answers.0; authority = authority.0; additional = additional.0; counted = fits }))
 spells bytes header questions answers authority additional fits s m low high =
     inl (goes header s.header_read (goes questions (sure (Questions bytes header) questions s.questions_read) (goes answers (sure (Answers bytes header questions.1) answers s.answers_read) (goes authority (sure (Authority bytes header answers.1) authority s.authority_read) (goes additional (sure (Additional bytes header authority.1) additional m) (inl (omega arith, fits, refl)))))))
 
@@ -113,7 +129,10 @@ counted : {A : Type 0} (items : List A) (n : ℕ) → length items ≡ n → n �
 counted items n is few = le-leb (length items) 65535 (omega arith)
 
 -- the lists of a message that is read can be counted
-pub are_few : (bytes : List ℕ) (header : Header × Counts) (questions : List Question × ℕ) (answers authority additional : List Record × ℕ) → HeaderAt bytes (Ok header) → Questions bytes header (Ok questions) → Answers bytes header questions.1 (Ok answers) → Authority bytes header answers.1 (Ok authority) → Additional bytes header authority.1 (Ok additional) → IsTrue (are_counted questions.0 answers.0 authority.0 additional.0)
+pub are_few : (bytes : List ℕ) (header : Header × Counts) (questions : List Question × ℕ) (answers authority additional : List Record × ℕ)
+    → HeaderAt bytes (Ok header) → Questions bytes header (Ok questions) → Answers bytes header questions.1 (Ok answers)
+    → Authority bytes header answers.1 (Ok authority) → Additional bytes header authority.1 (Ok additional)
+    → IsTrue (are_counted questions.0 answers.0 authority.0 additional.0)
 are_few bytes header questions answers authority additional h k l m n =
     let small = header_small bytes header h in
     all_four (is_counted questions.0) (is_counted answers.0) (is_counted authority.0) (is_counted additional.0)
@@ -122,6 +141,8 @@ are_few bytes header questions answers authority additional h k l m n =
     (counted authority.0 header.1.authority (items_count (RecordAt bytes) header.1.authority answers.1 authority m) small.authority)
     (counted additional.0 header.1.additional (items_count (RecordAt bytes) header.1.additional authority.1 additional n) small.additional)
 
-pub few_read : (bytes : List ℕ) (header : Header × Counts) (questions : List Question × ℕ) (answers authority additional : List Record × ℕ) → Sections bytes header questions answers authority → OrMemory (Additional bytes header authority.1) (Ok additional) → IsTrue (are_counted questions.0 answers.0 authority.0 additional.0)
+pub few_read : (bytes : List ℕ) (header : Header × Counts) (questions : List Question × ℕ) (answers authority additional : List Record × ℕ)
+    → Sections bytes header questions answers authority → OrMemory (Additional bytes header authority.1) (Ok additional)
+    → IsTrue (are_counted questions.0 answers.0 authority.0 additional.0)
 few_read bytes header questions answers authority additional s m =
     are_few bytes header questions answers authority additional s.header_read (sure (Questions bytes header) questions s.questions_read) (sure (Answers bytes header questions.1) answers s.answers_read) (sure (Authority bytes header answers.1) authority s.authority_read) (sure (Additional bytes header authority.1) additional m)

@@ -94,7 +94,8 @@ question-within message at read h =
     let c = then_value _ _ read b.2 in
     last _ c.0.1 c.2 (number-within message b.0.1 c.0 c.1)
   where
-    last : (question : Question) (end : ℕ) → ◌≡◌ {A = Result (Question × ℕ) DecodeFault} (Ok read) (Ok (question, end)) → end ≤ length message → read.1 ≤ length message
+    last : (question : Question) (end : ℕ) → ◌≡◌ {A = Result (Question × ℕ) DecodeFault} (Ok read) (Ok (question, end))
+        → end ≤ length message → read.1 ≤ length message
     last question end is low =
         let both : ◌≡◌ {A = Question × ℕ} read (question, end) = cc in
         subst (λ n. n ≤ length message) (sym (ap (λ (x : Question × ℕ). x.1) both)) low
@@ -115,7 +116,8 @@ IsSingle-length message at = IsSingle-then _ _ (IsSingle-u16 Short message (leng
     same size r s (inr (past, is)) (inr (past', is')) = is ∙ sym is'
 
 IsTotal-length : (message : List ℕ) (at : ℕ) → AllByRecursion IsByte message → IsTotal (LengthAt message at)
-IsTotal-length message at all = IsTotal-then _ _ (IsTotal-u16 Short message (length message) at all (omega arith)) (λ size h. by_room size (by_size (size.1 + size.0) (length message)))
+IsTotal-length message at all =
+    IsTotal-then _ _ (IsTotal-u16 Short message (length message) at all (omega arith)) (λ size h. by_room size (by_size (size.1 + size.0) (length message)))
   where
     Ends : ℕ × ℕ → Result (ℕ × ℕ) DecodeFault → Type 0
     Ends size all =
@@ -130,7 +132,8 @@ IsTotal-length message at all = IsTotal-then _ _ (IsTotal-u16 Short message (len
 made : (owner : List (List ℕ)) (kind class ttl : ℕ) (what : Content) (to : ℕ) → IsTrue (belongs kind class what) → Result (Record × ℕ) DecodeFault
 made owner kind class ttl what to fits = Ok (record { owner = owner; kind = kind; class = class; ttl = ttl; content = what; belongs = fits }, to)
 
-IsSingle-made : (owner : List (List ℕ)) (kind class ttl : ℕ) (what : Content) (to : ℕ) → IsSingle (λ (all : Result (Record × ℕ) DecodeFault). (fits : IsTrue (belongs kind class what)) × (all ≡ Ok (record { owner = owner; kind = kind; class = class; ttl = ttl; content = what; belongs = fits }, to)))
+IsSingle-made : (owner : List (List ℕ)) (kind class ttl : ℕ) (what : Content) (to : ℕ)
+    → IsSingle (λ (all : Result (Record × ℕ) DecodeFault). (fits : IsTrue (belongs kind class what)) × (all ≡ Ok (record { owner = owner; kind = kind; class = class; ttl = ttl; content = what; belongs = fits }, to)))
 unfolding made
 IsSingle-made owner kind class ttl what to = record { same = λ r s h k. h.1 ∙ ap (made owner kind class ttl what to) (Bool-set _ _ h.0 k.0) ∙ sym k.1 }
 
@@ -144,7 +147,8 @@ IsSingle-record message at =
     IsSingle-then _ _ (IsSingle-told of_rdata (ContentIn (form_of kind.0 class.0) message rdata.1 rdata.0) (IsSingle-content (form_of kind.0 class.0) message rdata.1 rdata.0)) (λ what.
     IsSingle-made owner.0 kind.0 class.0 ttl.0 what rdata.0))))))
 
-told_content : (of : Form) (message : List ℕ) (from to : ℕ) (what : Content) → Told of_rdata (ContentIn of message from to) (Ok what) → ContentIn of message from to (Ok what)
+told_content : (of : Form) (message : List ℕ) (from to : ℕ) (what : Content)
+    → Told of_rdata (ContentIn of message from to) (Ok what) → ContentIn of message from to (Ok what)
 told_content of message from to what (inl (own, h, is)) = let same : own ≡ what = cc in subst (λ x. ContentIn of message from to (Ok x)) same h
 told_content of message from to what (inr (fault, h, is)) = absurd cc
 
@@ -184,7 +188,9 @@ IsTotal-items : {A F : Type 0} (one : ℕ → Result (A × ℕ) F → Type 0) �
 IsTotal-items one each zero at = IsTotal-is _
 IsTotal-items one each (suc n) at = IsTotal-then _ _ (each at) (λ first h. IsTotal-then _ _ (IsTotal-items one each n first.1) (λ rest k. IsTotal-is _))
 
-items-within : {A F : Type 0} (one : ℕ → Result (A × ℕ) F → Type 0) (limit : ℕ) → ((at : ℕ) (read : A × ℕ) → one at (Ok read) → read.1 ≤ limit) → (n at : ℕ) → at ≤ limit → (read : List A × ℕ) → ItemsAt one n at (Ok read) → read.1 ≤ limit
+items-within : {A F : Type 0} (one : ℕ → Result (A × ℕ) F → Type 0) (limit : ℕ)
+    → ((at : ℕ) (read : A × ℕ) → one at (Ok read) → read.1 ≤ limit) → (n at : ℕ) → at ≤ limit → (read : List A × ℕ)
+    → ItemsAt one n at (Ok read) → read.1 ≤ limit
 items-within {A} {F} one limit each zero at low read is =
     let both : ◌≡◌ {A = List A × ℕ} read ([], at) = cc in
     subst (λ n. n ≤ limit) (sym (ap (λ (x : List A × ℕ). x.1) both)) low
@@ -248,21 +254,27 @@ Ending bytes header questions answers authority additional all =
     })))
     ⊎ ((additional.1 < length bytes) × (all ≡ Err (Trailing additional.1)))
 
-whole : (header : Header) (questions : List Question) (answers authority additional : List Record) → IsTrue (are_counted questions answers authority additional) → Result Message DecodeFault
-whole header questions answers authority additional fits = Ok (record { header = header; questions = questions; answers = answers; authority = authority; additional = additional; counted = fits })
+whole : (header : Header) (questions : List Question) (answers authority additional : List Record)
+    → IsTrue (are_counted questions answers authority additional) → Result Message DecodeFault
+whole header questions answers authority additional fits =
+    Ok (record { header = header; questions = questions; answers = answers; authority = authority; additional = additional; counted = fits })
 
-IsSingle-ending : (bytes : List ℕ) (header : Header) (questions : List Question) (answers authority : List Record) (additional : List Record × ℕ) → IsSingle (Ending bytes header questions answers authority additional)
+IsSingle-ending : (bytes : List ℕ) (header : Header) (questions : List Question) (answers authority : List Record) (additional : List Record × ℕ)
+    → IsSingle (Ending bytes header questions answers authority additional)
 unfolding whole
 IsSingle-ending bytes header questions answers authority additional = record { same = same }
   where
-    same : (r s : Result Message DecodeFault) → Ending bytes header questions answers authority additional r → Ending bytes header questions answers authority additional s → r ≡ s
+    same : (r s : Result Message DecodeFault) → Ending bytes header questions answers authority additional r
+        → Ending bytes header questions answers authority additional s → r ≡ s
     same r s (inl (end, fits, is)) (inl (end', fits', is')) =
         is ∙ ap (whole header questions answers authority additional.0) (Bool-set _ _ fits fits') ∙ sym is'
     same r s (inl (end, fits, is)) (inr (more, is')) = absurd (omega arith)
     same r s (inr (more, is)) (inl (end, fits, is')) = absurd (omega arith)
     same r s (inr (more, is)) (inr (more', is')) = is ∙ sym is'
 
-IsTotal-ending : (bytes : List ℕ) (header : Header) (questions : List Question) (answers authority : List Record) (additional : List Record × ℕ) → IsTrue (are_counted questions answers authority additional.0) → additional.1 ≤ length bytes → IsTotal (Ending bytes header questions answers authority additional)
+IsTotal-ending : (bytes : List ℕ) (header : Header) (questions : List Question) (answers authority : List Record) (additional : List Record × ℕ)
+    → IsTrue (are_counted questions answers authority additional.0) → additional.1 ≤ length bytes
+    → IsTotal (Ending bytes header questions answers authority additional)
 IsTotal-ending bytes header questions answers authority additional fits low = by_end (by_size (length bytes) additional.1)
   where
     by_end : (length bytes ≤ additional.1) ⊎ (additional.1 < length bytes) → IsTotal (Ending bytes header questions answers authority additional)

@@ -80,7 +80,10 @@ form_fits kind class =
         choose P form.Naptr form.Raw (kind == naptr) (λ h. both (kind == naptr) (class == internet) h here) (λ n10.
         both (not (kind == opt)) (not (class == internet && is_read kind)) other (not_both (class == internet) (is_read kind) (unread n1 n2 n3 n4 n5 n6 n7 n8 n9 n10))))))))))))
       where
-        unread : IsTrue (not (kind == a)) → IsTrue (not (kind == ns)) → IsTrue (not (kind == cname)) → IsTrue (not (kind == soa)) → IsTrue (not (kind == ptr)) → IsTrue (not (kind == mx)) → IsTrue (not (kind == txt)) → IsTrue (not (kind == aaaa)) → IsTrue (not (kind == srv)) → IsTrue (not (kind == naptr)) → IsTrue (not (is_read kind))
+        unread : IsTrue (not (kind == a)) → IsTrue (not (kind == ns)) → IsTrue (not (kind == cname))
+            → IsTrue (not (kind == soa)) → IsTrue (not (kind == ptr)) → IsTrue (not (kind == mx))
+            → IsTrue (not (kind == txt)) → IsTrue (not (kind == aaaa)) → IsTrue (not (kind == srv))
+            → IsTrue (not (kind == naptr)) → IsTrue (not (is_read kind))
         unread n1 n2 n3 n4 n5 n6 n7 n8 n9 n10 =
             neither _ (kind == naptr) (neither _ (kind == srv) (neither _ (kind == aaaa) (neither _ (kind == txt) (neither _ (kind == mx) (neither _ (kind == ptr) (neither _ (kind == soa) (neither _ (kind == cname) (neither (kind == a) (kind == ns) n1 n2) n3) n4) n5) n6) n7) n8) n9) n10
 
@@ -93,7 +96,8 @@ bytes_few : (message : List ℕ) (from to : ℕ) → to ≤ from + 65535 → IsT
 bytes_few message from to few = le-leb (length (bytes_between message from to)) 65535 (omega (arith, length-take (to - from) (drop from message)))
 
 -- content of a form belongs to the kinds and classes of the form
-pub belongs_of : (kind class : ℕ) (of : Form) (message : List ℕ) (from to : ℕ) (what : Content) → Fits kind class of → to ≤ from + 65535 → ContentIn of message from to (Ok what) → IsTrue (belongs kind class what)
+pub belongs_of : (kind class : ℕ) (of : Form) (message : List ℕ) (from to : ℕ) (what : Content) → Fits kind class of
+    → to ≤ from + 65535 → ContentIn of message from to (Ok what) → IsTrue (belongs kind class what)
 belongs_of kind class form.A message from to what fits few h =
     let m = made_value content.A (LastIn (AddressIn 4 message to) to from) what h in subst (λ x. IsTrue (belongs kind class x)) m.2 fits
 belongs_of kind class form.Ns message from to what fits few h =
@@ -148,17 +152,28 @@ length_span message at rdata (goes size (inl (value, small, there, read)) (inl (
     let place = ap (λ (x : ℕ × ℕ). x.1) number in
     record { begin = omega arith; size = omega arith; few = omega arith; inside = omega arith }
 
-pub content_belongs : (message : List ℕ) (kind class at : ℕ) (rdata : ℕ × ℕ) (what : Content) → LengthAt message at (Ok rdata) → OrMemory (Told of_rdata (ContentIn (form_of kind class) message rdata.1 rdata.0)) (Ok what) → IsTrue (belongs kind class what)
+pub content_belongs : (message : List ℕ) (kind class at : ℕ) (rdata : ℕ × ℕ) (what : Content)
+    → LengthAt message at (Ok rdata)
+    → OrMemory (Told of_rdata (ContentIn (form_of kind class) message rdata.1 rdata.0)) (Ok what)
+    → IsTrue (belongs kind class what)
 content_belongs message kind class at rdata what h k =
     belongs_of kind class (form_of kind class) message rdata.1 rdata.0 what (form_fits kind class) (length_span message at rdata h).few (told_value of_rdata (ContentIn (form_of kind class) message rdata.1 rdata.0) what k)
 
 -- a record whose content is read, or not
-pub record_goes : (message : List ℕ) (at : ℕ) (owner : List (List ℕ) × ℕ) (kind class ttl rdata : ℕ × ℕ) (what : Content) (fits : IsTrue (belongs kind.0 class.0 what)) → NameRead message at (Ok owner) → U16At message owner.1 (Ok kind) → U16At message kind.1 (Ok class) → U32At message class.1 (Ok ttl) → LengthAt message ttl.1 (Ok rdata) → OrMemory (Told of_rdata (ContentIn (form_of kind.0 class.0) message rdata.1 rdata.0)) (Ok what) → OrMemory (RecordAt message at) (Ok (record { owner = owner.0; kind = kind.0; class = class.0; ttl = ttl.0; content = what; belongs = fits }, rdata.0))
+pub record_goes : (message : List ℕ) (at : ℕ) (owner : List (List ℕ) × ℕ) (kind class ttl rdata : ℕ × ℕ) (what : Content) (fits : IsTrue (belongs kind.0 class.0 what))
+    → NameRead message at (Ok owner) → U16At message owner.1 (Ok kind) → U16At message kind.1 (Ok class)
+    → U32At message class.1 (Ok ttl) → LengthAt message ttl.1 (Ok rdata)
+    → OrMemory (Told of_rdata (ContentIn (form_of kind.0 class.0) message rdata.1 rdata.0)) (Ok what)
+    → OrMemory (RecordAt message at) (Ok (record { owner = owner.0; kind = kind.0; class = class.0; ttl = ttl.0; content = what; belongs = fits }, rdata.0))
 record_goes message at owner kind class ttl rdata what fits h1 h2 h3 h4 h5 (inl h6) =
     inl (goes owner h1 (goes kind h2 (goes class h3 (goes ttl h4 (goes rdata h5 (goes what h6 (fits, refl)))))))
 record_goes message at owner kind class ttl rdata what fits h1 h2 h3 h4 h5 (inr none) = absurd cc
 
-pub record_stops : (message : List ℕ) (at : ℕ) (owner : List (List ℕ) × ℕ) (kind class ttl rdata : ℕ × ℕ) (fault : DecodeFault) (result : Result (Record × ℕ) DecodeFault) → NameRead message at (Ok owner) → U16At message owner.1 (Ok kind) → U16At message kind.1 (Ok class) → U32At message class.1 (Ok ttl) → LengthAt message ttl.1 (Ok rdata) → OrMemory (Told of_rdata (ContentIn (form_of kind.0 class.0) message rdata.1 rdata.0)) (Err fault) → IsErrAnd result (λ told. told ≡ fault) → OrMemory (RecordAt message at) result
+pub record_stops : (message : List ℕ) (at : ℕ) (owner : List (List ℕ) × ℕ) (kind class ttl rdata : ℕ × ℕ) (fault : DecodeFault) (result : Result (Record × ℕ) DecodeFault)
+    → NameRead message at (Ok owner) → U16At message owner.1 (Ok kind) → U16At message kind.1 (Ok class)
+    → U32At message class.1 (Ok ttl) → LengthAt message ttl.1 (Ok rdata)
+    → OrMemory (Told of_rdata (ContentIn (form_of kind.0 class.0) message rdata.1 rdata.0)) (Err fault)
+    → IsErrAnd result (λ told. told ≡ fault) → OrMemory (RecordAt message at) result
 record_stops message at owner kind class ttl rdata fault (Ok value) h1 h2 h3 h4 h5 h6 is = absurd is
 record_stops message at owner kind class ttl rdata fault (Err told) h1 h2 h3 h4 h5 (inl h6) is =
     inl (goes owner h1 (goes kind h2 (goes class h3 (goes ttl h4 (goes rdata h5 (stops fault h6 (ap Err is)))))))

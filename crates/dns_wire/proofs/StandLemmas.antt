@@ -10,7 +10,8 @@ pub stands-whole : (bytes : List ℕ) → StandsAt bytes 0 bytes
 stands-whole bytes = take_all (length bytes) bytes (omega arith)
 
 -- of two parts that stand at a place the first stands there, and the other after it
-pub stands-append : (message : List ℕ) (at : ℕ) (front back : List ℕ) (size : ℕ) → length front ≡ size → StandsAt message at (front ++ back) → StandsAt message at front × StandsAt message (at + size) back
+pub stands-append : (message : List ℕ) (at : ℕ) (front back : List ℕ) (size : ℕ) → length front ≡ size
+    → StandsAt message at (front ++ back) → StandsAt message at front × StandsAt message (at + size) back
 stands-append message at front back size is h =
     let there = drop at message in
     let parts : take (length front + length back) there ≡ front ++ back = ap (λ n. take n there) (sym (length-append front back)) ∙ h in
@@ -35,7 +36,9 @@ after_pointer-fields_of [] at = refl
 after_pointer-fields_of (label ∷ labels) at = after_pointer-fields_of labels (at + (length label + 1))
 
 -- labels that stand at a place lead to the root after them
-leads-labels : (message : List ℕ) (start at root : ℕ) (labels : List (List ℕ)) → AllByRecursion IsLabel labels → root ≡ at + length (flat_map label_wire labels) → StandsAt message at (wire_of labels) → Leads message start at (fields_of labels) start root × RootAt message root
+leads-labels : (message : List ℕ) (start at root : ℕ) (labels : List (List ℕ)) → AllByRecursion IsLabel labels
+    → root ≡ at + length (flat_map label_wire labels) → StandsAt message at (wire_of labels)
+    → Leads message start at (fields_of labels) start root × RootAt message root
 unfolding fields_of
 leads-labels message start at root [] each is h =
     let same : at ≡ root = omega arith in
@@ -50,7 +53,8 @@ leads-labels message start at root (label ∷ labels) each is h =
     (((parts.0, each.0), rest.0), rest.1)
 
 -- the wire form of a name is read as that name
-pub NameAt-wire_of : (message : List ℕ) (at : ℕ) (labels : List (List ℕ)) → IsName labels → StandsAt message at (wire_of labels) → NameAt message at labels (at + length (wire_of labels))
+pub NameAt-wire_of : (message : List ℕ) (at : ℕ) (labels : List (List ℕ)) → IsName labels
+    → StandsAt message at (wire_of labels) → NameAt message at labels (at + length (wire_of labels))
 NameAt-wire_of message at labels name h =
     let root = at + length (flat_map label_wire labels) in
     let way = leads-labels message at at root labels name.each refl h in

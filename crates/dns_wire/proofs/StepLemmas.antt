@@ -13,12 +13,14 @@ sure One value (inl h) = h
 sure One value (inr none) = absurd cc
 
 -- one stage stops, and its fault is handed on
-pub stop : {A B F : Type 0} (One : Result A F → Type 0) (Next : A → Result B F → Type 0) (fault : F) (result : Result B F) → One (Err fault) → IsErrAnd result (λ told. told ≡ fault) → Then One Next result
+pub stop : {A B F : Type 0} (One : Result A F → Type 0) (Next : A → Result B F → Type 0) (fault : F) (result : Result B F)
+    → One (Err fault) → IsErrAnd result (λ told. told ≡ fault) → Then One Next result
 stop One Next fault (Ok value) h is = absurd is
 stop One Next fault (Err told) h is = stops fault h (ap Err is)
 
--- want of memory is handed on
-pub no_memory : {A : Type 0} (One : Result A DecodeFault → Type 0) (result : Result A DecodeFault) → IsErrAnd result (λ told. told ≡ Memory) → OrMemory One result
+-- out of memory is handed on
+pub no_memory : {A : Type 0} (One : Result A DecodeFault → Type 0) (result : Result A DecodeFault)
+    → IsErrAnd result (λ told. told ≡ Memory) → OrMemory One result
 no_memory One (Ok value) is = absurd is
 no_memory One (Err told) is = inr (ap Err is)
 
@@ -26,7 +28,8 @@ no_memory One (Err told) is = inr (ap Err is)
 pub told_ok : {A F : Type 0} (turn : F → DecodeFault) (One : Result A F → Type 0) (value : A) → One (Ok value) → OrMemory (Told turn One) (Ok value)
 told_ok turn One value h = inl (inl (value, h, refl))
 
-pub told_err : {A F : Type 0} (turn : F → DecodeFault) (One : Result A F → Type 0) (fault : F) (result : Result A DecodeFault) → One (Err fault) → IsErrAnd result (λ told. told ≡ turn fault) → OrMemory (Told turn One) result
+pub told_err : {A F : Type 0} (turn : F → DecodeFault) (One : Result A F → Type 0) (fault : F) (result : Result A DecodeFault)
+    → One (Err fault) → IsErrAnd result (λ told. told ≡ turn fault) → OrMemory (Told turn One) result
 told_err turn One fault (Ok value) h is = absurd is
 told_err turn One fault (Err told) h is = inl (inr (fault, h, ap Err is))
 
@@ -40,18 +43,23 @@ told_value turn One value (inr none) = absurd cc
 abbrev pub Made : {A B F : Type 0} → (A → B) → (Result A F → Type 0) → Result B F → Type 0
 Made make One = Then One (λ value all. all ≡ Ok (make value))
 
-pub made_ok : {A B F : Type 0} (turn : F → DecodeFault) (make : A → B) (One : Result A F → Type 0) (value : A) → One (Ok value) → OrMemory (Told turn (Made make One)) (Ok (make value))
+pub made_ok : {A B F : Type 0} (turn : F → DecodeFault) (make : A → B) (One : Result A F → Type 0) (value : A)
+    → One (Ok value) → OrMemory (Told turn (Made make One)) (Ok (make value))
 made_ok turn make One value h = inl (inl (make value, goes value h refl, refl))
 
-pub made_err : {A B F : Type 0} (turn : F → DecodeFault) (make : A → B) (One : Result A F → Type 0) (fault : F) (result : Result B DecodeFault) → One (Err fault) → IsErrAnd result (λ told. told ≡ turn fault) → OrMemory (Told turn (Made make One)) result
+pub made_err : {A B F : Type 0} (turn : F → DecodeFault) (make : A → B) (One : Result A F → Type 0) (fault : F) (result : Result B DecodeFault)
+    → One (Err fault) → IsErrAnd result (λ told. told ≡ turn fault) → OrMemory (Told turn (Made make One)) result
 made_err turn make One fault (Ok value) h is = absurd is
 made_err turn make One fault (Err told) h is = inl (inr (fault, stops fault h refl, ap Err is))
 
 -- the same of what is told already
-pub remade_ok : {A B F : Type 0} (turn : F → DecodeFault) (make : A → B) (One : Result A F → Type 0) (value : A) → OrMemory (Told turn One) (Ok value) → OrMemory (Told turn (Made make One)) (Ok (make value))
+pub remade_ok : {A B F : Type 0} (turn : F → DecodeFault) (make : A → B) (One : Result A F → Type 0) (value : A)
+    → OrMemory (Told turn One) (Ok value) → OrMemory (Told turn (Made make One)) (Ok (make value))
 remade_ok turn make One value h = made_ok turn make One value (told_value turn One value h)
 
-pub remade_err : {A B F : Type 0} (turn : F → DecodeFault) (make : A → B) (One : Result A F → Type 0) (fault : DecodeFault) (result : Result B DecodeFault) → OrMemory (Told turn One) (Err fault) → IsErrAnd result (λ told. told ≡ fault) → OrMemory (Told turn (Made make One)) result
+pub remade_err : {A B F : Type 0} (turn : F → DecodeFault) (make : A → B) (One : Result A F → Type 0) (fault : DecodeFault) (result : Result B DecodeFault)
+    → OrMemory (Told turn One) (Err fault) → IsErrAnd result (λ told. told ≡ fault)
+    → OrMemory (Told turn (Made make One)) result
 remade_err turn make One fault (Ok value) h is = absurd is
 remade_err turn make One fault (Err told) (inl (inl (own, h, no_fault))) is = absurd cc
 remade_err turn make One fault (Err told) (inl (inr (own, h, same))) is =
@@ -59,10 +67,12 @@ remade_err turn make One fault (Err told) (inl (inr (own, h, same))) is =
 remade_err turn make One fault (Err told) (inr none) is = let first : fault ≡ Memory = cc in inr (ap Err (is ∙ first))
 
 -- what stages read
-pub then_value : {A B F : Type 0} (One : Result A F → Type 0) (Next : A → Result B F → Type 0) (value : B) → Then One Next (Ok value) → (first : A) × One (Ok first) × Next first (Ok value)
+pub then_value : {A B F : Type 0} (One : Result A F → Type 0) (Next : A → Result B F → Type 0) (value : B)
+    → Then One Next (Ok value) → (first : A) × One (Ok first) × Next first (Ok value)
 then_value One Next value (goes first h k) = (first, h, k)
 then_value One Next value (stops fault h is) = absurd cc
 
-pub made_value : {A B F : Type 0} (make : A → B) (One : Result A F → Type 0) (value : B) → Made make One (Ok value) → (first : A) × One (Ok first) × (make first ≡ value)
+pub made_value : {A B F : Type 0} (make : A → B) (One : Result A F → Type 0) (value : B) → Made make One (Ok value)
+    → (first : A) × One (Ok first) × (make first ≡ value)
 made_value make One value (goes first h is) = (first, h, cc)
 made_value make One value (stops fault h is) = absurd cc

@@ -40,7 +40,8 @@ same_texts message at to (text ∷ one) (other ∷ two) (short, there, rest) (sh
     ap (λ x. x ∷ one) same ∙ ap (λ xs. other ∷ xs) tail
 
 -- where they reach the end, none is cut before
-whole_not_cut : (message : List ℕ) (at to : ℕ) (one two : List (List ℕ)) (place : ℕ) → TextsStand message at one to → TextsStand message at two place → place < to → TextIsCut message to place → ⊥
+whole_not_cut : (message : List ℕ) (at to : ℕ) (one two : List (List ℕ)) (place : ℕ) → TextsStand message at one to
+    → TextsStand message at two place → place < to → TextIsCut message to place → ⊥
 whole_not_cut message at to [] two place h k early cut = let low = stand_low message at two place k in absurd (omega arith)
 whole_not_cut message at to (text ∷ one) [] place (short, there, rest) k early cut =
     let low = stand_low message (at + (length text + 1)) one to rest in
@@ -50,7 +51,9 @@ whole_not_cut message at to (text ∷ one) (other ∷ two) place (short, there, 
     whole_not_cut message (at + (length text + 1)) to one two place rest (subst (λ (x : List ℕ). TextsStand message (at + (length x + 1)) two place) (sym same) rest') early cut
 
 -- they are cut at one place
-same_cut : (message : List ℕ) (at to : ℕ) (one two : List (List ℕ)) (a b : ℕ) → TextsStand message at one a → TextsStand message at two b → (a < to) ⊎ (one ≡ []) → (b < to) ⊎ (two ≡ []) → TextIsCut message to a → TextIsCut message to b → a ≡ b
+same_cut : (message : List ℕ) (at to : ℕ) (one two : List (List ℕ)) (a b : ℕ) → TextsStand message at one a
+    → TextsStand message at two b → (a < to) ⊎ (one ≡ []) → (b < to) ⊎ (two ≡ []) → TextIsCut message to a
+    → TextIsCut message to b → a ≡ b
 same_cut message at to [] [] a b h k early early' cut cut' = sym h ∙ k
 same_cut message at to [] (text ∷ two) a b h (short, there, rest) early (inr none) cut cut' = absurd cc
 same_cut message at to [] (text ∷ two) a b h (short, there, rest) early (inl low') cut cut' =
@@ -70,7 +73,8 @@ some_low : (message : List ℕ) (at : ℕ) (texts : List (List ℕ)) (next : ℕ
 some_low message at [] next is some = absurd (omega arith)
 some_low message at (text ∷ texts) next (short, there, rest) some = let low = stand_low message (at + (length text + 1)) texts next rest in omega arith
 
-early_place : (message : List ℕ) (from to : ℕ) (one two : List (List ℕ)) (place : ℕ) → TextsStand message from one to → 0 < length one → TextsStand message from two place → (place < to) ⊎ (two ≡ []) → place < to
+early_place : (message : List ℕ) (from to : ℕ) (one two : List (List ℕ)) (place : ℕ) → TextsStand message from one to
+    → 0 < length one → TextsStand message from two place → (place < to) ⊎ (two ≡ []) → place < to
 early_place message from to one two place h some k (inl low) = low
 early_place message from to one two place h some k (inr none) =
     let low = some_low message from one to h some in
@@ -83,7 +87,8 @@ IsSingle-texts message from to = record { same = same }
     same r s (inl (one, h, some, is)) (inl (two, k, some', is')) = is ∙ ap (λ (x : List (List ℕ)). Ok x) (same_texts message from to one two h k) ∙ sym is'
     same r s (inl (one, h, some, is)) (inr (two, place, k, early, cut, is')) = absurd (whole_not_cut message from to one two place h k (early_place message from to one two place h some k early) cut)
     same r s (inr (two, place, k, early, cut, is')) (inl (one, h, some, is)) = absurd (whole_not_cut message from to one two place h k (early_place message from to one two place h some k early) cut)
-    same r s (inr (one, a, h, early, cut, is)) (inr (two, b, k, early', cut', is')) = is ∙ ap (λ n. Err (Shape n)) (same_cut message from to one two a b h k early early' cut cut') ∙ sym is'
+    same r s (inr (one, a, h, early, cut, is)) (inr (two, b, k, early', cut', is')) =
+        is ∙ ap (λ n. Err (Shape n)) (same_cut message from to one two a b h k early early' cut cut') ∙ sym is'
 
 -- from a place on they reach the end, or one is cut before it
 abbrev Found : List ℕ → ℕ → ℕ → Type 0
@@ -99,7 +104,8 @@ found message to (suc fuel) at all fits low more = by_place (λ next far near. f
     after text short there (inl (texts, stand)) = inl (text ∷ texts, (short, there, stand))
     after text short there (inr (texts, place, stand, early, cut)) = inr (text ∷ texts, place, (short, there, stand), early, cut)
 
-    by_text : ((next : ℕ) → at < next → next ≤ to → Found message next to) → at < to → (r : Result (List ℕ × ℕ) InFault) → TextIn message to at r → Found message at to
+    by_text : ((next : ℕ) → at < next → next ≤ to → Found message next to) → at < to → (r : Result (List ℕ × ℕ) InFault)
+        → TextIn message to at r → Found message at to
     by_text again inside r (inl (text, short, there, is)) =
         let low = there.1 in
         let room : at + (length text + 1) ≤ to = omega arith in

@@ -33,7 +33,9 @@ pub text_cut : (message : List ℕ) (to at : ℕ) (fault : InFault) → TextIn m
 text_cut message to at fault (inl (own, short, there, is)) = absurd cc
 text_cut message to at fault (inr (none, is)) = (none, cc)
 
-stand-more : (message : List ℕ) (at : ℕ) (texts : List (List ℕ)) (here : ℕ) (text : List ℕ) → TextsStand message at texts here → length text ≤ 255 → StandsAt message here (string_wire text) → TextsStand message at (texts ++ text ∷ []) (here + (length text + 1))
+stand-more : (message : List ℕ) (at : ℕ) (texts : List (List ℕ)) (here : ℕ) (text : List ℕ)
+    → TextsStand message at texts here → length text ≤ 255 → StandsAt message here (string_wire text)
+    → TextsStand message at (texts ++ text ∷ []) (here + (length text + 1))
 stand-more message at [] here text is short there =
     (short, subst (λ n. StandsAt message n (string_wire text)) (sym is) there, ap (λ n. n + (length text + 1)) is)
 stand-more message at (first ∷ texts) here text (small, stands, rest) short there =
@@ -45,12 +47,15 @@ pub record IsReadingTexts (message : List ℕ) (from to : ℕ) (texts : List (Li
   pub some : 0 < length texts
   pub low : at ≤ to
 
-pub texts-first : (message : List ℕ) (from to : ℕ) (text : List ℕ) (next : ℕ) → TextIn message to from (Ok (text, next)) → next ≤ to → IsReadingTexts message from to (text ∷ []) next
+pub texts-first : (message : List ℕ) (from to : ℕ) (text : List ℕ) (next : ℕ) → TextIn message to from (Ok (text, next))
+    → next ≤ to → IsReadingTexts message from to (text ∷ []) next
 texts-first message from to text next h low =
     let t = text_read message to from text next h in
     record { stand = (t.short, t.there.0, sym t.after); some = omega arith; low = low }
 
-pub texts-more : (message : List ℕ) (from to : ℕ) (texts : List (List ℕ)) (at : ℕ) (text : List ℕ) (next : ℕ) → IsReadingTexts message from to texts at → TextIn message to at (Ok (text, next)) → next ≤ to → IsReadingTexts message from to (texts ++ text ∷ []) next
+pub texts-more : (message : List ℕ) (from to : ℕ) (texts : List (List ℕ)) (at : ℕ) (text : List ℕ) (next : ℕ)
+    → IsReadingTexts message from to texts at → TextIn message to at (Ok (text, next)) → next ≤ to
+    → IsReadingTexts message from to (texts ++ text ∷ []) next
 texts-more message from to texts at text next r h low =
     let t = text_read message to at text next h in
     record {
@@ -60,21 +65,28 @@ texts-more message from to texts at text next r h low =
     }
 
 -- the faults and the end
-told : (message : List ℕ) (from to : ℕ) (fault : InFault) (result : Result (List (List ℕ)) DecodeFault) → TextsIn message from to (Err fault) → IsErrAnd result (λ told. told ≡ of_rdata fault) → OrMemory (Told of_rdata (TextsIn message from to)) result
+told : (message : List ℕ) (from to : ℕ) (fault : InFault) (result : Result (List (List ℕ)) DecodeFault)
+    → TextsIn message from to (Err fault) → IsErrAnd result (λ told. told ≡ of_rdata fault)
+    → OrMemory (Told of_rdata (TextsIn message from to)) result
 told message from to fault (Ok texts) h is = absurd is
 told message from to fault (Err other) h is = inl (inr (fault, h, ap Err is))
 
-pub texts-none : (message : List ℕ) (from to : ℕ) (fault : InFault) (result : Result (List (List ℕ)) DecodeFault) → TextIn message to from (Err fault) → IsErrAnd result (λ told. told ≡ of_rdata fault) → OrMemory (Told of_rdata (TextsIn message from to)) result
+pub texts-none : (message : List ℕ) (from to : ℕ) (fault : InFault) (result : Result (List (List ℕ)) DecodeFault)
+    → TextIn message to from (Err fault) → IsErrAnd result (λ told. told ≡ of_rdata fault)
+    → OrMemory (Told of_rdata (TextsIn message from to)) result
 texts-none message from to fault result h is =
     let cut = text_cut message to from fault h in
     told message from to fault result (inr ([], from, refl, inr refl, cut.0, ap Err cut.1)) is
 
-pub texts-cut : (message : List ℕ) (from to : ℕ) (texts : List (List ℕ)) (at : ℕ) (fault : InFault) (result : Result (List (List ℕ)) DecodeFault) → IsReadingTexts message from to texts at → at < to → TextIn message to at (Err fault) → IsErrAnd result (λ told. told ≡ of_rdata fault) → OrMemory (Told of_rdata (TextsIn message from to)) result
+pub texts-cut : (message : List ℕ) (from to : ℕ) (texts : List (List ℕ)) (at : ℕ) (fault : InFault) (result : Result (List (List ℕ)) DecodeFault)
+    → IsReadingTexts message from to texts at → at < to → TextIn message to at (Err fault)
+    → IsErrAnd result (λ told. told ≡ of_rdata fault) → OrMemory (Told of_rdata (TextsIn message from to)) result
 texts-cut message from to texts at fault result r low h is =
     let cut = text_cut message to at fault h in
     told message from to fault result (inr (texts, at, r.stand, inl low, cut.0, ap Err cut.1)) is
 
-pub texts-end : (message : List ℕ) (from to : ℕ) (texts : List (List ℕ)) (at : ℕ) → IsReadingTexts message from to texts at → to ≤ at → OrMemory (Told of_rdata (TextsIn message from to)) (Ok texts)
+pub texts-end : (message : List ℕ) (from to : ℕ) (texts : List (List ℕ)) (at : ℕ)
+    → IsReadingTexts message from to texts at → to ≤ at → OrMemory (Told of_rdata (TextsIn message from to)) (Ok texts)
 texts-end message from to texts at r high =
     let low = r.low in
     let end : at ≡ to = omega arith in

@@ -1,10 +1,10 @@
 -- The content of RDATA in a message (RFC 1035, sections 3.3 and 3.4; RFC 3596, 2782, 3403, 6891). A reading tells what stands at a
 -- place: a value and the place after it, or what breaks it there. The RDATA lies from one place to another.
-use Rattle.std.specs.Prelude.{◌≡◌, ◌⊎◌, ℕ, ◌+◌, ◌-◌, ◌<◌, ◌≤◌, ◌^◌, List, [], ◌∷◌, length, take, drop, Result, Ok, Err}
+use Rattle.std.specs.Prelude.{◌≡◌, ◌⊎◌, ℕ, ◌+◌, ◌-◌, ◌<◌, ◌≤◌, List, [], ◌∷◌, length, take, drop, Result, Ok, Err}
 use Rattle.enum_base.specs.Stages.{Then}
 use Rattle.dns_name.specs.Wire.{StandsAt}
 use Rattle.rdata_field.specs.Strings.{string_wire}
-use Rattle.rdata_field.specs.Fields.{StandsWithin, U16In, TextIsCut, NameIn, EndsIn}
+use Rattle.rdata_field.specs.Fields.{U16In, U32In, AddressIn, TextIsCut, NameIn, EndsIn}
 use Rattle.naptr_rule.specs.Fields.{RuleIn}
 use Rattle.rdata_field.specs.declared.in_fault.InFault.{InFault}
 use Rattle.rdata_field.specs.declared.in_fault.InFault.TheVariants.{Shape}
@@ -63,7 +63,7 @@ abbrev pub ContentIn : Form → List ℕ → ℕ → ℕ → Result Content InFa
 ContentIn form.A message from to = Then (LastIn (AddressIn 4 message to) to from) (λ address all. all ≡ Ok (content.A address))
 ContentIn form.Ns message from to = Then (LastIn (NameIn message to) to from) (λ server all. all ≡ Ok (content.Ns server))
 ContentIn form.Cname message from to = Then (LastIn (NameIn message to) to from) (λ target all. all ≡ Ok (content.Cname target))
-ContentIn form.Soa message from to = Then (LastIn (SoaIn message to) to from) (λ start all. all ≡ Ok (content.Soa start))
+ContentIn form.Soa message from to = Then (LastIn (SoaIn message to) to from) (λ soa all. all ≡ Ok (content.Soa soa))
 ContentIn form.Ptr message from to = Then (LastIn (NameIn message to) to from) (λ name all. all ≡ Ok (content.Ptr name))
 ContentIn form.Mx message from to =
     Then (U16In message to from) (λ preference.

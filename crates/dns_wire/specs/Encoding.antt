@@ -13,7 +13,8 @@ use Rattle.dns_wire.specs.declared.message.Message.{Message}
 -- a header: six numbers of 16 bits, the high byte first (RFC 1035, 4.1.1)
 abbrev pub header_wire : Header → Counts → List ℕ
 header_wire header counts =
-    to_be_bytes w16 header.id ++ to_be_bytes w16 header.bits ++ to_be_bytes w16 counts.questions ++ to_be_bytes w16 counts.answers ++ to_be_bytes w16 counts.authority ++ to_be_bytes w16 counts.additional
+    to_be_bytes w16 header.id ++ to_be_bytes w16 header.bits ++ to_be_bytes w16 counts.questions
+    ++ to_be_bytes w16 counts.answers ++ to_be_bytes w16 counts.authority ++ to_be_bytes w16 counts.additional
 
 -- a question (RFC 1035, 4.1.2)
 abbrev pub question_wire : Question → List ℕ
@@ -22,7 +23,8 @@ question_wire question = wire_of question.name ++ to_be_bytes w16 question.kind 
 -- a record (RFC 1035, 4.1.3)
 abbrev pub record_wire : Record → List ℕ
 record_wire one =
-    wire_of one.owner ++ to_be_bytes w16 one.kind ++ to_be_bytes w16 one.class ++ to_be_bytes w32 one.ttl ++ to_be_bytes w16 (length (rdata_of one.content)) ++ rdata_of one.content
+    wire_of one.owner ++ to_be_bytes w16 one.kind ++ to_be_bytes w16 one.class ++ to_be_bytes w32 one.ttl
+    ++ to_be_bytes w16 (length (rdata_of one.content)) ++ rdata_of one.content
 
 -- how many items the lists of a message have (RFC 1035, 4.1.1)
 abbrev pub counts_of : Message → Counts
@@ -36,7 +38,9 @@ counts_of message = record {
 -- a message: its header, questions and records of three sections (RFC 1035, 4.1)
 abbrev pub message_wire : Message → List ℕ
 message_wire message =
-    header_wire message.header (counts_of message) ++ flat_map question_wire message.questions ++ flat_map record_wire message.answers ++ flat_map record_wire message.authority ++ flat_map record_wire message.additional
+    header_wire message.header (counts_of message) ++ flat_map question_wire message.questions
+    ++ flat_map record_wire message.answers ++ flat_map record_wire message.authority
+    ++ flat_map record_wire message.additional
 
 -- what bytes leave of that much room, or that they have more
 abbrev pub Leaves : ℕ → List ℕ → Option ℕ → Type 0

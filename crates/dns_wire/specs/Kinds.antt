@@ -1,6 +1,6 @@
 -- Kinds of records, and the content that belongs to them (RFC 1035, section 3.2.2; RFC 3596, 2782, 3403, 6891). That other
 -- content stays as it stands is this project's own.
-use Rattle.std.specs.Prelude.{ℕ, List, length, Bool, true, false, ◌==◌, ◌&&◌, ◌||◌, not, nat_lt, nat_le}
+use Rattle.std.specs.Prelude.{ℕ, List, length, Bool, true, false, ◌==◌, ◌&&◌, ◌||◌, not, nat_lt, nat_le, if◌then◌else◌, codes, Option, Some, None}
 use Rattle.dns_wire.specs.declared.content.Content.{Content}
 use Rattle.dns_wire.specs.declared.content.Content.TheVariants as content
 
@@ -42,9 +42,32 @@ naptr = 35
 abbrev pub opt : ℕ
 opt = 41
 
+-- all types, in questions alone (RFC 1035, 3.2.3)
+abbrev pub any : ℕ
+any = 255
+
+-- the names of the types whose content is read, and of options (RFC 1035, 3.2.2; RFC 3596, 2.1; RFC 2782; RFC 3403, 4.1; RFC 6891,
+-- 6.1.1)
+abbrev pub kind_word : ℕ → Option (List ℕ)
+kind_word kind =
+    if kind == a then Some (codes "A")
+    else if kind == ns then Some (codes "NS")
+    else if kind == cname then Some (codes "CNAME")
+    else if kind == soa then Some (codes "SOA")
+    else if kind == ptr then Some (codes "PTR")
+    else if kind == mx then Some (codes "MX")
+    else if kind == txt then Some (codes "TXT")
+    else if kind == aaaa then Some (codes "AAAA")
+    else if kind == srv then Some (codes "SRV")
+    else if kind == naptr then Some (codes "NAPTR")
+    else if kind == opt then Some (codes "OPT")
+    else None
+
 -- the kinds whose content is read in the class of the internet
 abbrev pub is_read : ℕ → Bool
-is_read kind = kind == a || kind == ns || kind == cname || kind == soa || kind == ptr || kind == mx || kind == txt || kind == aaaa || kind == srv || kind == naptr
+is_read kind =
+    kind == a || kind == ns || kind == cname || kind == soa || kind == ptr || kind == mx || kind == txt || kind == aaaa
+    || kind == srv || kind == naptr
 
 -- the bytes fit one RDATA (RFC 1035, 3.2.1)
 abbrev pub fits_rdata : List ℕ → Bool
@@ -55,7 +78,7 @@ abbrev pub belongs : ℕ → ℕ → Content → Bool
 belongs kind class (content.A address) = kind == a && class == internet
 belongs kind class (content.Ns server) = kind == ns && class == internet
 belongs kind class (content.Cname target) = kind == cname && class == internet
-belongs kind class (content.Soa start) = kind == soa && class == internet
+belongs kind class (content.Soa fields) = kind == soa && class == internet
 belongs kind class (content.Ptr name) = kind == ptr && class == internet
 belongs kind class (content.Mx preference exchange) = kind == mx && class == internet
 belongs kind class (content.Txt texts) = kind == txt && class == internet && nat_lt 0 (length texts)
@@ -70,7 +93,7 @@ abbrev pub kind_of : Content → ℕ
 kind_of (content.A address) = a
 kind_of (content.Ns server) = ns
 kind_of (content.Cname target) = cname
-kind_of (content.Soa start) = soa
+kind_of (content.Soa fields) = soa
 kind_of (content.Ptr name) = ptr
 kind_of (content.Mx preference exchange) = mx
 kind_of (content.Txt texts) = txt
@@ -85,7 +108,7 @@ abbrev pub is_whole : Content → Bool
 is_whole (content.A address) = true
 is_whole (content.Ns server) = true
 is_whole (content.Cname target) = true
-is_whole (content.Soa start) = true
+is_whole (content.Soa fields) = true
 is_whole (content.Ptr name) = true
 is_whole (content.Mx preference exchange) = true
 is_whole (content.Txt texts) = nat_lt 0 (length texts)

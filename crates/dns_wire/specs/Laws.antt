@@ -13,7 +13,7 @@ use Rattle.dns_wire.specs.declared.decode_fault.DecodeFault.TheVariants.{Memory}
 abbrev pub OneMessage : Type 0
 OneMessage = (bytes : List ℕ) (one other : Message) → Spells bytes one → Spells bytes other → one ≡ other
 
--- .. or they have at most one fault, which is never want of memory ..
+-- .. or they have at most one fault, which is never that it is out of memory ..
 abbrev pub OneBreak : Type 0
 OneBreak = (bytes : List ℕ) (one other : DecodeFault) → Breaks bytes one → Breaks bytes other → one ≡ other
 

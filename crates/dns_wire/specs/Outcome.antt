@@ -8,6 +8,6 @@ abbrev pub Told : {A F G : Type 0} → (F → G) → (Result A F → Type 0) →
 Told {A} {F} {G} told One result =
     ((value : A) × One (Ok value) × (result ≡ Ok value)) ⊎ ((fault : F) × One (Err fault) × (result ≡ Err (told fault)))
 
--- a reading, or memory ran out
+-- a reading, or out of memory
 abbrev pub OrMemory : {A : Type 0} → (Result A DecodeFault → Type 0) → Result A DecodeFault → Type 0
 OrMemory One result = One result ⊎ (result ≡ Err Memory)

@@ -1,7 +1,8 @@
 -- The ranges that the types of a message keep (RFC 1035, sections 3.2.1, 3.3 and 4.1).
 use Rattle.std.specs.Prelude.{◌≡◌, ℕ, ◌<◌, ◌≤◌, ◌^◌, List, length}
 use Rattle.std.specs.List.{AllByRecursion}
-use Rattle.dns_name.specs.Name.{IsByte, IsName}
+pub use Rattle.enum_base.specs.Texts.{AreBytes, IsText}
+use Rattle.dns_name.specs.Name.{IsName}
 use Rattle.naptr_rule.specs.Rdata.{IsRule}
 use Rattle.dns_wire.specs.declared.content.Soa.{Soa}
 use Rattle.dns_wire.specs.declared.content.Content.{Content}
@@ -10,10 +11,6 @@ use Rattle.dns_wire.specs.declared.question.Question.{Question}
 use Rattle.dns_wire.specs.declared.record.Record.{Record}
 use Rattle.dns_wire.specs.declared.message.Header.{Header}
 use Rattle.dns_wire.specs.declared.message.Message.{Message}
-
--- bytes
-abbrev pub AreBytes : List ℕ → Type 0
-AreBytes bytes = AllByRecursion IsByte bytes
 
 -- a number of 16 bits, and one of 32
 abbrev pub IsU16 : ℕ → Type 0
@@ -32,17 +29,12 @@ pub record IsSoa (soa : Soa) : Type 0 where
   pub expire : IsU32 soa.expire
   pub minimum : IsU32 soa.minimum
 
--- a text of at most 255 bytes
-pub record IsText (text : List ℕ) : Type 0 where
-  pub short : length text ≤ 255
-  pub bytes : AreBytes text
-
 -- the values of content are in their ranges
 abbrev pub IsContent : Content → Type 0
 IsContent (content.A address) = (length address ≡ 4) × AreBytes address
 IsContent (content.Ns server) = IsName server
 IsContent (content.Cname target) = IsName target
-IsContent (content.Soa start) = IsSoa start
+IsContent (content.Soa fields) = IsSoa fields
 IsContent (content.Ptr name) = IsName name
 IsContent (content.Mx preference exchange) = IsU16 preference × IsName exchange
 IsContent (content.Txt texts) = AllByRecursion IsText texts

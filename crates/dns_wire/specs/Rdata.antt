@@ -12,7 +12,8 @@ use Rattle.dns_wire.specs.declared.content.Content.TheVariants as content
 -- the RDATA of an SOA record: two names and five numbers of 32 bits, the high byte first (RFC 1035, 3.3.13)
 abbrev pub soa_rdata : Soa → List ℕ
 soa_rdata soa =
-    wire_of soa.mname ++ wire_of soa.rname ++ to_be_bytes w32 soa.serial ++ to_be_bytes w32 soa.refresh ++ to_be_bytes w32 soa.retry ++ to_be_bytes w32 soa.expire ++ to_be_bytes w32 soa.minimum
+    wire_of soa.mname ++ wire_of soa.rname ++ to_be_bytes w32 soa.serial ++ to_be_bytes w32 soa.refresh
+    ++ to_be_bytes w32 soa.retry ++ to_be_bytes w32 soa.expire ++ to_be_bytes w32 soa.minimum
 
 -- the RDATA of content (RFC 1035, 3.3 and 3.4; RFC 3596, 2.2; RFC 2782; RFC 3403, 4.1)
 abbrev pub rdata_of : Content → List ℕ

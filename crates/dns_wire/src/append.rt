@@ -1,4 +1,4 @@
-//! Parts of messages, appended to bytes. Where memory runs out, the front of them is as it was.
+//! Parts of messages, appended to bytes. When out of memory, the front of them is as it was.
 ghost use Rattle.std.specs.Prelude.{◌≡◌, ◌++◌, length, take, OnOk};
 ghost use Rattle.std.specs.Int.{w16, w32, to_be_bytes};
 ghost use Rattle.dns_wire.specs.Ranges.{AreBytes};

@@ -6,6 +6,7 @@ ghost use Rattle.naptr_rule.specs.Rdata.{rdata};
 ghost use Rattle.dns_wire.specs.Ranges.{AreBytes, IsText};
 
 use crate::append::{append, append_u16, append_u32};
+use crate::kinds;
 use dns_name::Name;
 use enum_base::{Bytes, List, MemoryFault, Text255};
 use naptr_rule::Naptr;
@@ -66,7 +67,7 @@ impl Content {
     /// The RDATA, names without compression.
     ///
     /// # Errors
-    /// Memory ran out.
+    /// Out of memory.
     pub fn rdata(&self, alloc: Global) -> Result<Bytes, MemoryFault>
         ensures { IfOk result (λ bytes. bytes ≡ rdata_of self.now) }
     {
@@ -92,7 +93,7 @@ impl Content {
         }
     }
 
-    // Appends the RDATA; where memory runs out, the front is as it was.
+    // Appends the RDATA; when out of memory, the front is as it was.
     pub(crate) fn write(&self, out: &mut Bytes) -> Result<(), MemoryFault>
         ensures ok { OnOk result (out.new ≡ out.old ++ rdata_of self.now) }
         ensures front { take (length out.old) out.new ≡ out.old }
@@ -126,17 +127,17 @@ impl Content {
         ensures { result ≡ kind_of self.now }
     {
         match self {
-            Content::A(_) => 1,
-            Content::Ns(_) => 2,
-            Content::Cname(_) => 5,
-            Content::Soa(_) => 6,
-            Content::Ptr(_) => 12,
-            Content::Mx(_, _) => 15,
-            Content::Txt(_) => 16,
-            Content::Aaaa(_) => 28,
-            Content::Srv(_, _, _, _) => 33,
-            Content::Naptr(_) => 35,
-            Content::Opt(_) => 41,
+            Content::A(_) => kinds::A,
+            Content::Ns(_) => kinds::NS,
+            Content::Cname(_) => kinds::CNAME,
+            Content::Soa(_) => kinds::SOA,
+            Content::Ptr(_) => kinds::PTR,
+            Content::Mx(_, _) => kinds::MX,
+            Content::Txt(_) => kinds::TXT,
+            Content::Aaaa(_) => kinds::AAAA,
+            Content::Srv(_, _, _, _) => kinds::SRV,
+            Content::Naptr(_) => kinds::NAPTR,
+            Content::Opt(_) => kinds::OPT,
             Content::Raw(_) => 0,
         }
     }
@@ -144,7 +145,7 @@ impl Content {
     /// Content that is equal to this one.
     ///
     /// # Errors
-    /// Memory ran out.
+    /// Out of memory.
     pub fn copy(&self, alloc: Global) -> Result<Content, MemoryFault>
         ensures { IfOk result (λ content. content ≡ self.now) }
     {
@@ -178,7 +179,7 @@ impl Soa {
         self.mname.wire().len() + self.rname.wire().len() + 20
     }
 
-    // Appends the RDATA; where memory runs out, the front is as it was.
+    // Appends the RDATA; when out of memory, the front is as it was.
     fn write(&self, out: &mut Bytes) -> Result<(), MemoryFault>
         ensures ok { OnOk result (out.new ≡ out.old ++ soa_rdata self.now) }
         ensures front { take (length out.old) out.new ≡ out.old }
@@ -235,7 +236,7 @@ fn write_address<const SIZE: usize>(
     append(address, out)
 }
 
-// Appends the texts as character-strings; where memory runs out, the front is as it was.
+// Appends the texts as character-strings; when out of memory, the front is as it was.
 fn write_texts(texts: &[Text255], out: &mut Bytes) -> Result<(), MemoryFault>
     ensures ok { OnOk result (out.new ≡ out.old ++ flat_map string_wire texts.now) }
     ensures front { take (length out.old) out.new ≡ out.old }
@@ -247,7 +248,7 @@ fn write_texts(texts: &[Text255], out: &mut Bytes) -> Result<(), MemoryFault>
     Ok(())
 }
 
-// Appends the text as a character-string; where memory runs out, the front is as it was.
+// Appends the text as a character-string; when out of memory, the front is as it was.
 fn write_text(text: &Text255, out: &mut Bytes) -> Result<(), MemoryFault>
     ensures ok { OnOk result (out.new ≡ out.old ++ string_wire text.now) }
     ensures front { take (length out.old) out.new ≡ out.old }

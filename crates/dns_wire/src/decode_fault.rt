@@ -22,7 +22,7 @@ pub enum DecodeFault {
     RdataShape { at: usize },
     /// Bytes are left after the last record.
     Trailing { at: usize },
-    /// Memory ran out.
+    /// Out of memory.
     Memory,
 }
 

@@ -6,6 +6,7 @@ ghost use Rattle.dns_wire.specs.Message.{Spells};
 ghost use Rattle.dns_wire.specs.Encoding.{header_wire, counts_of, question_wire, record_wire, message_wire, Leaves};
 
 use crate::append::{append, append_u16, append_u32};
+use crate::limits::{HEADER, MOST_BYTES};
 use crate::message::{Counts, Header, Message};
 use crate::question::Question;
 use crate::record::Record;
@@ -16,7 +17,7 @@ use enum_base::{Bytes, MemoryFault};
 pub enum EncodeFault {
     /// It has more than 65,535 bytes, which no length on a stream tells (RFC 1035, 4.2.2).
     TooLong,
-    /// Memory ran out.
+    /// Out of memory.
     Memory,
 }
 
@@ -61,7 +62,7 @@ fn is_short(message: &Message) -> bool
 fn after_message(message: &Message) -> Option<usize>
     ensures { Leaves 65_535 (message_wire message.now) result }
 {
-    let room = after_questions(message.questions.as_slice(), 65_535 - 12)?;
+    let room = after_questions(message.questions.as_slice(), MOST_BYTES - HEADER)?;
     let room = after_records(message.answers.as_slice(), room)?;
     let room = after_records(message.authority.as_slice(), room)?;
     after_records(message.additional.as_slice(), room)
@@ -119,7 +120,7 @@ fn write_whole(message: &Message, out: &mut Bytes) -> Result<(), MemoryFault>
     written
 }
 
-// Appends the message; where memory runs out, the front is as it was. So do the functions below.
+// Appends the message; when out of memory, the front is as it was. So do the functions below.
 fn write_message(message: &Message, out: &mut Bytes) -> Result<(), MemoryFault>
     requires { length (message_wire message.now) ≤ 65_535 }
     ensures ok { OnOk result (out.new ≡ out.old ++ message_wire message.now) }

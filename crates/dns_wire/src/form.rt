@@ -2,6 +2,8 @@
 ghost use Rattle.std.specs.Prelude.{◌≡◌};
 ghost use Rattle.dns_wire.specs.Forms.{form_of, internet_form};
 
+use crate::kinds;
+
 /// The forms of RDATA: addresses, names, fields one after another, options, and bytes as they stand.
 #[derive(Clone, Copy)]
 pub(crate) enum Form {
@@ -23,10 +25,10 @@ pub(crate) enum Form {
 pub(crate) fn form_of(kind: u16, class: u16) -> Form
     ensures { result ≡ form_of kind class }
 {
-    if kind == 41 {
+    if kind == kinds::OPT {
         return Form::Opt;
     }
-    if class != 1 {
+    if class != kinds::INTERNET {
         return Form::Raw;
     }
     internet_form(kind)
@@ -37,16 +39,16 @@ fn internet_form(kind: u16) -> Form
     ensures { result ≡ internet_form kind }
 {
     match kind {
-        1 => Form::A,
-        2 => Form::Ns,
-        5 => Form::Cname,
-        6 => Form::Soa,
-        12 => Form::Ptr,
-        15 => Form::Mx,
-        16 => Form::Txt,
-        28 => Form::Aaaa,
-        33 => Form::Srv,
-        35 => Form::Naptr,
+        kinds::A => Form::A,
+        kinds::NS => Form::Ns,
+        kinds::CNAME => Form::Cname,
+        kinds::SOA => Form::Soa,
+        kinds::PTR => Form::Ptr,
+        kinds::MX => Form::Mx,
+        kinds::TXT => Form::Txt,
+        kinds::AAAA => Form::Aaaa,
+        kinds::SRV => Form::Srv,
+        kinds::NAPTR => Form::Naptr,
         _ => Form::Raw,
     }
 }

@@ -47,7 +47,7 @@ impl Framer {
     /// Appends a piece to the stream.
     ///
     /// # Errors
-    /// Memory ran out; the stream is then as it was.
+    /// Out of memory; the stream is then as it was.
     pub fn feed(&mut self, piece: &[u8]) -> Result<(), MemoryFault>
         ensures ok { OnOk result (self.new ≡ record self.old { rest = self.old.rest ++ piece.now }) }
         ensures err { OnErr result (self.new ≡ self.old) }

@@ -10,7 +10,7 @@ use crate::message::Message;
 use enum_base::Bytes;
 use std::alloc::Global;
 
-/// Bytes spell one message or have one fault, which is never want of memory, and never both.
+/// Bytes spell one message or have one fault, which is never that it is out of memory, and never both.
 pub fn message_is_one()
     ensures one_message { OneMessage }
     ensures one_break { OneBreak }

@@ -1,6 +1,5 @@
 //! Questions and records in messages.
 ghost use Rattle.std.specs.Prelude.{◌<◌, ◌≤◌, length, IfOk};
-ghost use Rattle.dns_name.specs.Targets.{AreTargets};
 ghost use Rattle.dns_wire.specs.Message.{NameRead, QuestionAt, LengthAt, RecordAt};
 ghost use Rattle.dns_wire.specs.Outcome.{OrMemory};
 
@@ -10,7 +9,7 @@ use crate::field::{u16_at, u32_at};
 use crate::form::form_of;
 use crate::question::Question;
 use crate::record::Record;
-use dns_name::Name;
+use dns_name::{MessageBytes, Name};
 use std::alloc::Global;
 
 /// The question at that place, and the place after it (RFC 1035, 4.1.2).
@@ -18,16 +17,14 @@ use std::alloc::Global;
 /// # Errors
 /// The first of its fields that cannot be read.
 pub(crate) fn question_at(
-    message: &[u8],
-    targets: &[u16],
+    message: &MessageBytes<'_>,
     at: usize,
 ) -> Result<(Question, usize), DecodeFault>
     requires place { at ≤ length message.now }
-    requires targets { AreTargets message.now targets.now }
     ensures question { QuestionAt message.now at result }
     ensures within { IfOk result (λ read. (at < read.1) × (read.1 ≤ length message.now)) }
 {
-    let (name, at_kind) = name_at(message, targets, at)?;
+    let (name, at_kind) = name_at(message, at)?;
     let (kind, at_class) = u16_at(message, at_kind)?;
     let (class, end) = u16_at(message, at_class)?;
     Ok((Question { name, kind, class }, end))
@@ -39,21 +36,19 @@ pub(crate) fn question_at(
 /// The first of its fields that cannot be read, or `Memory`.
 pub(crate) fn record_at(
     alloc: Global,
-    message: &[u8],
-    targets: &[u16],
+    message: &MessageBytes<'_>,
     at: usize,
 ) -> Result<(Record, usize), DecodeFault>
     requires place { at ≤ length message.now }
-    requires targets { AreTargets message.now targets.now }
     ensures record { OrMemory (RecordAt message.now at) result }
     ensures within { IfOk result (λ read. (at < read.1) × (read.1 ≤ length message.now)) }
 {
-    let (owner, at_kind) = name_at(message, targets, at)?;
+    let (owner, at_kind) = name_at(message, at)?;
     let (kind, at_class) = u16_at(message, at_kind)?;
     let (class, at_ttl) = u16_at(message, at_class)?;
     let (ttl, at_length) = u32_at(message, at_ttl)?;
     let (to, from) = length_at(message, at_length)?;
-    let content = content_in(alloc, form_of(kind, class), message, targets, from, to)?;
+    let content = content_in(alloc, form_of(kind, class), message, from, to)?;
     let record = Record {
         owner,
         kind,
@@ -65,17 +60,16 @@ pub(crate) fn record_at(
 }
 
 // The name at that place, and the place after it.
-fn name_at(message: &[u8], targets: &[u16], at: usize) -> Result<(Name, usize), DecodeFault>
+fn name_at(message: &MessageBytes<'_>, at: usize) -> Result<(Name, usize), DecodeFault>
     requires place { at ≤ length message.now }
-    requires targets { AreTargets message.now targets.now }
     ensures name { NameRead message.now at result }
     ensures within { IfOk result (λ read. (at < read.1) × (read.1 ≤ length message.now)) }
 {
-    Ok(Name::read_at_by(message, targets, at)?)
+    Ok(message.name_at(at)?)
 }
 
 // The place where the RDATA ends by the RDLENGTH at that place, and the place where it begins.
-fn length_at(message: &[u8], at: usize) -> Result<(usize, usize), DecodeFault>
+fn length_at(message: &MessageBytes<'_>, at: usize) -> Result<(usize, usize), DecodeFault>
     requires { at ≤ length message.now }
     ensures length { LengthAt message.now at result }
     ensures within { IfOk result (λ read. (at < read.1) × (read.1 ≤ read.0) × (read.0 ≤ length message.now)) }

@@ -3,6 +3,7 @@ ghost use Rattle.dns_wire.specs.Kinds.{belongs};
 ghost use Rattle.std.specs.Prelude.{◌≡◌, IsTrue, IfOk};
 
 use crate::content::Content;
+use crate::kinds;
 use dns_name::Name;
 use enum_base::{List, MemoryFault};
 use std::alloc::Global;
@@ -35,7 +36,7 @@ impl Record {
         Record {
             owner,
             kind,
-            class: 1,
+            class: kinds::INTERNET,
             ttl,
             content,
         }
@@ -44,7 +45,7 @@ impl Record {
     /// A record that is equal to this one.
     ///
     /// # Errors
-    /// Memory ran out.
+    /// Out of memory.
     pub fn copy(&self, alloc: Global) -> Result<Record, MemoryFault>
         ensures { IfOk result (λ copy. copy ≡ self.now) }
     {

@@ -6,6 +6,7 @@ ghost use Rattle.dns_wire.specs.DecodeFaults.{of_rdata};
 
 use crate::content::Texts;
 use crate::decode_fault::DecodeFault;
+use dns_name::MessageBytes;
 use rdata_field::text_in;
 use std::alloc::Global;
 
@@ -15,7 +16,7 @@ use std::alloc::Global;
 /// `RdataShape` at the character-string that does not lie in the RDATA; where there is none, at the start.
 pub(crate) fn texts_in(
     alloc: Global,
-    message: &[u8],
+    message: &MessageBytes<'_>,
     from: usize,
     to: usize,
 ) -> Result<Texts, DecodeFault>

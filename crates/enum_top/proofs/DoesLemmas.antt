@@ -4,11 +4,11 @@ use Rattle.std.proofs.lemmas.Result.{err_from_is_err_and}
 use Rattle.std.specs.Result.{IsErrAnd}
 use Rattle.enum_base.specs.Causes.{Blames}
 use Rattle.enum_top.specs.Running.{Does}
-use Rattle.enum_top.specs.Verdicts.{Whole, whole}
+use Rattle.enum_top.specs.Verdicts.{AtOnce, whole}
 use Rattle.enum_top.specs.declared.cause.Cause.{Cause}
-use Rattle.enum_top.specs.declared.refusal.Refusal.{Refusal}
-use Rattle.enum_top.specs.declared.refusal.Refusal.TheVariants.{IllFormed}
-use Rattle.enum_top.specs.declared.status.Object.{Object}
+use Rattle.enum_top.specs.declared.why.Why.{Why}
+use Rattle.enum_top.specs.declared.why.Why.TheVariants.{Judged}
+use Rattle.enum_top.specs.declared.objects.Object.{Object}
 use Rattle.enum_top.specs.declared.status.Printed.{Printed}
 
 -- what a stage gave
@@ -26,7 +26,7 @@ done {value = value} is = record {
 }
 
 -- a cause that a stage stops by
-pub ill_formed : {A : Type 0} {Used : Object → Type 0} {One : Result A Cause → Type 0} {cause : Cause} → One (Err cause) → Does Used One (Err (IllFormed cause))
+pub ill_formed : {A : Type 0} {Used : Object → Type 0} {One : Result A Cause → Type 0} {cause : Cause} → One (Err cause) → Does Used One (Err (Judged cause))
 ill_formed {cause = cause} is = record {
   went = λ v e. absurd (cc e);
   stopped = λ c e. let same : c ≡ cause = cc e in rw same is;
@@ -36,7 +36,9 @@ ill_formed {cause = cause} is = record {
 }
 
 -- the work is stopped by what a part of it was stopped by
-pub stopped_by : {A B : Type 0} {Used Used' : Object → Type 0} {One : Result A Cause → Type 0} {More : Result B Cause → Type 0} {why : Refusal} → ((object : Object) → Used object → Used' object) → ((cause : Cause) → One (Err cause) → More (Err cause)) → Does Used One (Err why) → Does Used' More (Err why)
+pub stopped_by : {A B : Type 0} {Used Used' : Object → Type 0} {One : Result A Cause → Type 0} {More : Result B Cause
+    → Type 0} {why : Why} → ((object : Object) → Used object → Used' object)
+    → ((cause : Cause) → One (Err cause) → More (Err cause)) → Does Used One (Err why) → Does Used' More (Err why)
 stopped_by uses more one = record {
   went = λ v e. absurd (cc e);
   stopped = λ cause e. more cause (one.stopped cause (ap Err (cc e)));
@@ -46,7 +48,10 @@ stopped_by uses more one = record {
 }
 
 -- what is done and stopped so is done and stopped as more says
-pub done_as : {A : Type 0} {Used Used' : Object → Type 0} {One : Result A Cause → Type 0} {More : Result A Cause → Type 0} {result : Result A Refusal} → ((object : Object) → Used object → Used' object) → ((value : A) → One (Ok value) → More (Ok value)) → ((cause : Cause) → One (Err cause) → More (Err cause)) → Does Used One result → Does Used' More result
+pub done_as : {A : Type 0} {Used Used' : Object → Type 0} {One : Result A Cause → Type 0} {More : Result A Cause
+    → Type 0} {result : Result A Why} → ((object : Object) → Used object → Used' object)
+    → ((value : A) → One (Ok value) → More (Ok value)) → ((cause : Cause) → One (Err cause) → More (Err cause))
+    → Does Used One result → Does Used' More result
 done_as uses go stop one = record {
   went = λ v e. go v (one.went v e);
   stopped = λ cause e. stop cause (one.stopped cause e);
@@ -56,7 +61,8 @@ done_as uses go stop one = record {
 }
 
 -- the stages of a command come to its verdict
-pub as_whole : {Used : Object → Type 0} {Stages : Result Printed Cause → Type 0} {result : Result Printed Refusal} → Does Used Stages result → Does Used (λ printed. Whole Stages (whole printed)) result
+pub as_whole : {Used : Object → Type 0} {Stages : Result Printed Cause → Type 0} {result : Result Printed Why}
+    → Does Used Stages result → Does Used (λ printed. AtOnce Stages (whole printed)) result
 as_whole d = record {
   went = λ v e. record { result = Ok v; comes = d.went v e; is = refl };
   stopped = λ cause e. record { result = Err cause; comes = d.stopped cause e; is = refl };
@@ -66,7 +72,8 @@ as_whole d = record {
 }
 
 -- what `?` passes on
-pub passed : {A : Type 0} {Used : Object → Type 0} {One : Result A Cause → Type 0} {result : Result A Refusal} {why : Refusal} → IsErrAnd result (λ given. given ≡ why) → Does Used One (Err why) → Does Used One result
+pub passed : {A : Type 0} {Used : Object → Type 0} {One : Result A Cause → Type 0} {result : Result A Why} {why : Why}
+    → IsErrAnd result (λ given. given ≡ why) → Does Used One (Err why) → Does Used One result
 passed {result = result} is d = let p = err_from_is_err_and result is in rw (p.1, p.2) d
 
 -- what is not blamed has not failed

@@ -1,5 +1,6 @@
 -- What was read of a zone file, and what that comes to.
-use Rattle.std.proofs.Common.{◌≡◌, ◌≢◌, inl, inr, ℕ, ◌+◌, ◌≤◌, List, [], ◌∷◌, ◌++◌, length, take, drop, Option, Some, None, option_map, Result, Ok, Err, refl, sym, ap, subst, ◌∙◌, append_assoc}
+use Rattle.std.proofs.Common.{◌≡◌, ◌≢◌, inl, inr, ℕ, ◌+◌, ◌≤◌, List, [], ◌∷◌, ◌++◌, length, take, drop, Option, Some}
+use Rattle.std.proofs.Common.{None, option_map, Result, Ok, Err, refl, sym, ap, subst, ◌∙◌, append_assoc}
 use Rattle.std.specs.Prelude.{Contains, IsSome, true, false, unwrap_or}
 use Rattle.std.proofs.Math.Seq.{drop-append_seam}
 use Rattle.std.proofs.lemmas.List.{append-nil, take-append-drop}
@@ -22,13 +23,14 @@ use Rattle.enum_base.specs.Stages.Then.{goes, stops}
 use Rattle.enum_top.specs.ZoneFiles.{Files, TextAt, found}
 use Rattle.enum_top.specs.declared.cause.Cause.{Cause}
 use Rattle.enum_top.specs.declared.cause.Cause.TheVariants.{Absent, Text}
-use Rattle.enum_top.specs.declared.refusal.Refusal.{Refusal}
-use Rattle.enum_top.specs.declared.status.Object.{Object}
+use Rattle.enum_top.specs.declared.why.Why.{Why}
+use Rattle.enum_top.specs.declared.objects.Object.{Object}
 use Rattle.enum_top.proofs.DoesLemmas.{ill_formed}
 
 -- the law that a text that is broken so far stays so
 abbrev pub StaysBroken : Type 0
-StaysBroken = (bytes more : List ℕ) (origin : Labels) (line : ℕ) (why : TextWhy) → BreaksSoFar bytes origin line why → ZoneBreaks (bytes ++ more) origin line why
+StaysBroken = (bytes more : List ℕ) (origin : Labels) (line : ℕ) (why : TextWhy) → BreaksSoFar bytes origin line why
+    → ZoneBreaks (bytes ++ more) origin line why
 
 -- a reader was fed what was read, and the shelf has the rest left
 pub record IsFed (old new : ShelfState) (fed : Fed) : Type 0 where
@@ -41,15 +43,21 @@ pub record IsFed (old new : ShelfState) (fed : Fed) : Type 0 where
 
 front_and_rest : (bytes piece rest : List ℕ) (n : ℕ) → piece ≡ take n rest → bytes ++ rest ≡ (bytes ++ piece) ++ drop n rest
 front_and_rest bytes piece rest n is =
-    ap (λ (r : List ℕ). bytes ++ r) (sym (take-append-drop n rest)) ∙ sym (append_assoc bytes (take n rest) (drop n rest)) ∙ ap (λ (p : List ℕ). (bytes ++ p) ++ drop n rest) (sym is)
+    ap (λ (r : List ℕ). bytes ++ r) (sym (take-append-drop n rest))
+    ∙ sym (append_assoc bytes (take n rest) (drop n rest))
+    ∙ ap (λ (p : List ℕ). (bytes ++ p) ++ drop n rest) (sym is)
 
 -- one piece more was fed
-pub next_left : (old left left' : Option (List ℕ)) (bytes piece : List ℕ) (n : ℕ) → old ≡ option_map (λ rest. bytes ++ rest) left → AreFirst n piece left → left' ≡ after n left → old ≡ option_map (λ rest. (bytes ++ piece) ++ rest) left'
+pub next_left : (old left left' : Option (List ℕ)) (bytes piece : List ℕ) (n : ℕ)
+    → old ≡ option_map (λ rest. bytes ++ rest) left → AreFirst n piece left → left' ≡ after n left
+    → old ≡ option_map (λ rest. (bytes ++ piece) ++ rest) left'
 next_left old None left' bytes piece n parts first then = parts ∙ sym (ap (option_map (λ rest. (bytes ++ piece) ++ rest)) then)
 next_left old (Some rest) left' bytes piece n parts first then =
     parts ∙ ap Some (front_and_rest bytes piece rest n first) ∙ sym (ap (option_map (λ r. (bytes ++ piece) ++ r)) then)
 
-pub fed_more : (old between new : ShelfState) (fed fed' : Fed) (piece : List ℕ) (n : ℕ) → IsFed old between fed → fed' ≡ record fed { text = fed.text ++ piece } → length fed'.text ≤ most_bytes → AreFirst n piece between.left → new.left ≡ after n between.left → new.files ≡ between.files → new.faults ≡ between.faults → IsFed old new fed'
+pub fed_more : (old between new : ShelfState) (fed fed' : Fed) (piece : List ℕ) (n : ℕ) → IsFed old between fed
+    → fed' ≡ record fed { text = fed.text ++ piece } → length fed'.text ≤ most_bytes → AreFirst n piece between.left
+    → new.left ≡ after n between.left → new.files ≡ between.files → new.faults ≡ between.faults → IsFed old new fed'
 fed_more old between new fed fed' piece n has is within first left files faults =
     let small : length (fed.text ++ piece) ≤ most_bytes = subst (λ (f : Fed). length f.text ≤ most_bytes) is within in
     subst (IsFed old new) (sym is) (record {
@@ -62,7 +70,8 @@ fed_more old between new fed fed' piece n has is within first left files faults 
     })
 
 -- what was fed before and read now is taken from what was left at first
-pub taken_more : (bytes : List ℕ) (n : ℕ) (old left now : Option (List ℕ)) → old ≡ option_map (λ rest. bytes ++ rest) left → now ≡ after n left → now ≡ after (length bytes + n) old
+pub taken_more : (bytes : List ℕ) (n : ℕ) (old left now : Option (List ℕ))
+    → old ≡ option_map (λ rest. bytes ++ rest) left → now ≡ after n left → now ≡ after (length bytes + n) old
 taken_more bytes n old left now parts then =
     then ∙ ap (after n) (sym (ap (after (length bytes)) parts ∙ front left)) ∙ after-twice (length bytes) n old
   where
@@ -71,22 +80,39 @@ taken_more bytes n old left now parts then =
     front (Some rest) = ap Some (drop-append_seam bytes rest)
 
 -- all was read
-pub end_left : (old left : Option (List ℕ)) (bytes : List ℕ) (n : ℕ) → old ≡ option_map (λ rest. bytes ++ rest) left → n ≡ 0 → EndsAtEnd n left → LeftBytes old (Ok bytes)
+pub end_left : (old left : Option (List ℕ)) (bytes : List ℕ) (n : ℕ) → old ≡ option_map (λ rest. bytes ++ rest) left
+    → n ≡ 0 → EndsAtEnd n left → LeftBytes old (Ok bytes)
 end_left old None bytes n parts none ends = subst (λ o. LeftBytes o (Ok bytes)) (sym parts) (bytes, refl)
 end_left old (Some rest) bytes n parts none ends =
     subst (λ o. LeftBytes o (Ok bytes)) (sym (parts ∙ ap (λ r. Some (bytes ++ r)) (ends.0 none) ∙ ap Some (append-nil bytes))) refl
 
 -- the text so far breaks
-pub broken_left : StaysBroken → (old left : Option (List ℕ)) (place : ℕ) (bytes piece : List ℕ) (origin : Labels) (n : ℕ) (fault : TextFault) → old ≡ option_map (λ rest. bytes ++ rest) left → AreFirst n piece left → origin ≡ [] → BreaksSoFar (bytes ++ piece) origin fault.line fault.why → LeftText old place (Err (Text place fault))
+pub broken_left : StaysBroken → (old left : Option (List ℕ)) (place : ℕ) (bytes piece : List ℕ) (origin : Labels)
+    (n : ℕ) (fault : TextFault) → old ≡ option_map (λ rest. bytes ++ rest) left → AreFirst n piece left → origin ≡ []
+    → BreaksSoFar (bytes ++ piece) origin fault.line fault.why → LeftText old place (Err (Text place fault))
 broken_left law old None place bytes piece origin n fault parts first root broken =
     goes ((bytes ++ piece) ++ []) (subst (λ o. LeftBytes o (Ok ((bytes ++ piece) ++ []))) (sym parts) ((bytes ++ piece) ++ [], refl))
-    (inr (fault, subst (λ (o : Labels). ZoneBreaks ((bytes ++ piece) ++ []) o fault.line fault.why) root (law (bytes ++ piece) [] origin fault.line fault.why broken), refl))
+    (inr (
+      fault,
+      subst (λ (o : Labels). ZoneBreaks ((bytes ++ piece) ++ []) o fault.line fault.why) root
+          (law (bytes ++ piece) [] origin fault.line fault.why broken),
+      refl,
+    ))
 broken_left law old (Some rest) place bytes piece origin n fault parts first root broken =
-    goes ((bytes ++ piece) ++ drop n rest) (subst (λ o. LeftBytes o (Ok ((bytes ++ piece) ++ drop n rest))) (sym (parts ∙ ap Some (front_and_rest bytes piece rest n first))) refl)
-    (inr (fault, subst (λ (o : Labels). ZoneBreaks ((bytes ++ piece) ++ drop n rest) o fault.line fault.why) root (law (bytes ++ piece) (drop n rest) origin fault.line fault.why broken), refl))
+    goes ((bytes ++ piece) ++ drop n rest)
+    (subst (λ o. LeftBytes o (Ok ((bytes ++ piece) ++ drop n rest)))
+    (sym (parts ∙ ap Some (front_and_rest bytes piece rest n first))) refl)
+    (inr (
+      fault,
+      subst (λ (o : Labels). ZoneBreaks ((bytes ++ piece) ++ drop n rest) o fault.line fault.why) root
+          (law (bytes ++ piece) (drop n rest) origin fault.line fault.why broken),
+      refl,
+    ))
 
 -- a broken text stops the work
-pub text_refused : {A : Type 0} {Used : Object → Type 0} {One : Result A Cause → Type 0} (place : ℕ) (fault : TextFault) (why : Refusal) → Refuses place fault why → (fault.why ≢ text.Memory → One (Err (Text place fault))) → Does Used One (Err why)
+pub text_refused : {A : Type 0} {Used : Object → Type 0} {One : Result A Cause → Type 0} (place : ℕ)
+    (fault : TextFault) (why : Why) → Refuses place fault why
+    → (fault.why ≢ text.Memory → One (Err (Text place fault))) → Does Used One (Err why)
 text_refused place fault why (inl is) broken = rw is (record {
   went = λ v e. absurd (cc e);
   stopped = λ cause e. absurd (cc e);
@@ -106,7 +132,8 @@ each_plain (first ∷ records) (said ∷ statements) are one holds =
       | inr later ↦ each_plain records statements are.1 one later
     ]
 
-pub plain_at : (files : Option (List File)) (words : List (List ℕ)) (place : ℕ) (records : List Record) → TextAt files words place (Ok records) → (one : Record) → Contains records one → IsPlain one
+pub plain_at : (files : Option (List File)) (words : List (List ℕ)) (place : ℕ) (records : List Record)
+    → TextAt files words place (Ok records) → (one : Record) → Contains records one → IsPlain one
 plain_at files words place records (goes bytes read (inl (said, says, is))) one holds =
     let same : records ≡ said = cc is in
     each_plain said says.statements says.records_are one (subst (λ (rs : List Record). Contains rs one) same holds)
@@ -118,13 +145,17 @@ found_bytes : (place : ℕ) (held : Option (List ℕ)) (bytes : List ℕ) → Is
 found_bytes place None bytes some is = absurd (cc some)
 found_bytes place (Some b) bytes some is = ap Ok is
 
-left_bytes : (files : Option (List File)) (words : List (List ℕ)) (place : ℕ) (name : List ℕ) (left : Option (List ℕ)) (bytes : List ℕ) → name ≡ text_at words place → Finds files name true → Opens files name left → LeftBytes left (Ok bytes) → Files files words place (Ok bytes)
+left_bytes : (files : Option (List File)) (words : List (List ℕ)) (place : ℕ) (name : List ℕ) (left : Option (List ℕ))
+    (bytes : List ℕ) → name ≡ text_at words place → Finds files name true → Opens files name left
+    → LeftBytes left (Ok bytes) → Files files words place (Ok bytes)
 left_bytes None words place name left bytes same finds opens read = (Some bytes, refl)
 left_bytes (Some fs) words place name left bytes same finds opens read =
     let is : Ok bytes ≡ Ok (unwrap_or (file_of fs name) []) = subst (λ (l : Option (List ℕ)). LeftBytes l (Ok bytes)) opens read in
     found_bytes place (file_of fs name) bytes (finds.0 refl) (cc is) ∙ ap (λ n. found place (file_of fs n)) same
 
-pub text_of_left : (files : Option (List File)) (words : List (List ℕ)) (place : ℕ) (name : List ℕ) (left : Option (List ℕ)) (result : Result (List Record) Cause) → name ≡ text_at words place → Finds files name true → Opens files name left → LeftText left place result → TextAt files words place result
+pub text_of_left : (files : Option (List File)) (words : List (List ℕ)) (place : ℕ) (name : List ℕ)
+    (left : Option (List ℕ)) (result : Result (List Record) Cause) → name ≡ text_at words place → Finds files name true
+    → Opens files name left → LeftText left place result → TextAt files words place result
 text_of_left files words place name left result same finds opens (goes bytes read said) =
     goes bytes (left_bytes files words place name left bytes same finds opens read) said
 text_of_left files words place name left result same finds opens (stops cause stopped is) = absurd (never left cause stopped)
@@ -138,18 +169,21 @@ absent_bytes : (place : ℕ) (held : Option (List ℕ)) → ¬ IsSome held → E
 absent_bytes place None none = refl
 absent_bytes place (Some b) none = absurd (none refl)
 
-pub text_absent : (files : Option (List File)) (words : List (List ℕ)) (place : ℕ) (name : List ℕ) → name ≡ text_at words place → Finds files name false → TextAt files words place (Err (Absent place))
+pub text_absent : (files : Option (List File)) (words : List (List ℕ)) (place : ℕ) (name : List ℕ)
+    → name ≡ text_at words place → Finds files name false → TextAt files words place (Err (Absent place))
 text_absent None words place name same finds = stops (Absent place) (None, refl) refl
 text_absent (Some fs) words place name same finds =
     stops (Absent place) (absent_bytes place (file_of fs name) (λ some. cc (finds.1 some)) ∙ ap (λ n. found place (file_of fs n)) same) refl
 
 -- how much of a file was taken
-pub taken_of : (files : Option (List File)) (name : List ℕ) (most : ℕ) (left left' : Option (List ℕ)) → Opens files name left → AreTaken most left left' → WhereTold files (TakesAtMost most name left')
+pub taken_of : (files : Option (List File)) (name : List ℕ) (most : ℕ) (left left' : Option (List ℕ))
+    → Opens files name left → AreTaken most left left' → WhereTold files (TakesAtMost most name left')
 taken_of None name most left left' opens taken = tt
 taken_of (Some fs) name most left left' opens taken =
     λ bytes is. subst (λ (l : Option (List ℕ)). AreTaken most l left') (opens ∙ ap (λ (o : Option (List ℕ)). Some (unwrap_or o [])) is) taken
 
-pub taken_none : (files : Option (List File)) (name : List ℕ) (most : ℕ) (left' : Option (List ℕ)) → Finds files name false → WhereTold files (TakesAtMost most name left')
+pub taken_none : (files : Option (List File)) (name : List ℕ) (most : ℕ) (left' : Option (List ℕ))
+    → Finds files name false → WhereTold files (TakesAtMost most name left')
 taken_none None name most left' finds = tt
 taken_none (Some fs) name most left' finds = λ bytes is. absurd (cc (finds.1 (some_of (file_of fs name) bytes is)))
   where

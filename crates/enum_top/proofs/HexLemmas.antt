@@ -1,5 +1,7 @@
 -- Digits that decode are bytes in hexadecimal, and no others are.
-use Rattle.std.proofs.Common.{◌≡◌, ◌⊎◌, inl, inr, ℕ, zero, suc, ◌+◌, ◌*◌, ◌/◌, ◌%◌, ◌<◌, ◌≤◌, ◌==◌, Bool, true, false, ◌&&◌, ◌||◌, List, [], ◌∷◌, length, slice_index, Option, Some, None, Result, Ok, Err, refl, sym, ap, subst, ◌∙◌, arith}
+use Rattle.std.proofs.Common.{◌≡◌, ◌⊎◌, inl, inr, ℕ, zero, suc, ◌+◌, ◌*◌, ◌/◌, ◌%◌, ◌<◌, ◌≤◌, ◌==◌, Bool, true, false}
+use Rattle.std.proofs.Common.{◌&&◌, ◌||◌, List, [], ◌∷◌, length, slice_index, Option, Some, None, Result, Ok, Err, refl}
+use Rattle.std.proofs.Common.{sym, ap, subst, ◌∙◌, arith}
 use Rattle.std.specs.Prelude.{not}
 use Rattle.std.specs.List.{AllPass}
 use Rattle.std.proofs.lemmas.Bool.{and_parts, cases_lt, eqb-true}
@@ -57,7 +59,8 @@ low_digit digit high low is =
 
 -- what is read in steps
 
-both_steps : {A B : Type 0} (first : Result A FromHexError) (next : A → Result B FromHexError) (value : B) → (first >>= next) ≡ Ok value → (x : A) × (first ≡ Ok x) × (next x ≡ Ok value)
+both_steps : {A B : Type 0} (first : Result A FromHexError) (next : A → Result B FromHexError) (value : B)
+    → (first >>= next) ≡ Ok value → (x : A) × (first ≡ Ok x) × (next x ≡ Ok value)
 both_steps (Ok x) next value h = (x, refl, h)
 both_steps (Err e) next value h = absurd (cc h)
 
@@ -78,7 +81,12 @@ pairs_spelled place (a ∷ b ∷ rest) bytes h =
     let low = digit_read b (place + 1) (hex_digit_value b) second.0 second.1 in
     let byte : first.0 * 16 + second.0 ≡ whole.0 = cc second.2 in
     let all : whole.0 ∷ more.0 ≡ bytes = cc more.2 in
-    cc (high_digit a first.0 second.0 high (value_below b second.0 low), low_digit b first.0 second.0 low, pairs_spelled (place + 2) rest more.0 more.1) ∙ ap (λ (x : ℕ). encode_with lower_digits (x ∷ more.0)) byte ∙ ap (encode_with lower_digits) all
+    cc (
+      high_digit a first.0 second.0 high (value_below b second.0 low),
+      low_digit b first.0 second.0 low,
+      pairs_spelled (place + 2) rest more.0 more.1,
+    ) ∙ ap (λ (x : ℕ). encode_with lower_digits (x ∷ more.0)) byte
+    ∙ ap (encode_with lower_digits) all
 
 -- digits that decode are the bytes in hexadecimal
 pub hex_of_decoded : (digits bytes : List ℕ) → decode_of digits ≡ Ok bytes → IsHex digits bytes
@@ -100,7 +108,8 @@ digit_of_small : (byte : ℕ) → is_hex_digit (folded_byte byte) ≡ true → i
 digit_of_small byte is =
     elim (cases_lt byte 91) [
       | inl below ↦
-          implied (is_hex_digit (folded_byte byte)) (is_hex_digit byte) (all_below-at (λ c. not (is_hex_digit (folded_byte c)) || is_hex_digit c) 91 byte refl below) is
+          implied (is_hex_digit (folded_byte byte)) (is_hex_digit byte)
+          (all_below-at (λ c. not (is_hex_digit (folded_byte c)) || is_hex_digit c) 91 byte refl below) is
       | inr above ↦ subst (λ (c : ℕ). is_hex_digit c ≡ true) (folded_above byte (omega arith)) is
     ]
   where
@@ -111,7 +120,9 @@ digit_of_small byte is =
 digits_of_small : (digits : List ℕ) → AllPass is_hex_digit (folded digits) → AllPass is_hex_digit digits
 digits_of_small [] h = All-nil (λ c. is_hex_digit c ≡ true)
 digits_of_small (digit ∷ rest) h =
-    All-cons (λ c. is_hex_digit c ≡ true) digit rest (digit_of_small digit (All-head (λ c. is_hex_digit c ≡ true) (folded_byte digit) (folded rest) h)) (digits_of_small rest (All-tail (λ c. is_hex_digit c ≡ true) (folded_byte digit) (folded rest) h))
+    All-cons (λ c. is_hex_digit c ≡ true) digit rest
+    (digit_of_small digit (All-head (λ c. is_hex_digit c ≡ true) (folded_byte digit) (folded rest) h))
+    (digits_of_small rest (All-tail (λ c. is_hex_digit c ≡ true) (folded_byte digit) (folded rest) h))
 
 -- digits that are bytes in hexadecimal decode
 pub hex_decodes : (digits bytes : List ℕ) → IsHex digits bytes → (found : List ℕ) × (decode_of digits ≡ Ok found)
@@ -121,6 +132,7 @@ hex_decodes digits bytes h =
     decode_of-digits digits even (digits_of_small digits small.1)
 
 -- .. so what is refused, but for memory, is none
-pub no_hex : (digits : List ℕ) (fault : FromHexError) → (fault ≡ OutOfMemory → ⊥) → (fault ≡ OutOfMemory) ⊎ (decode_of digits ≡ Err fault) → (bytes : List ℕ) × IsHex digits bytes → ⊥
+pub no_hex : (digits : List ℕ) (fault : FromHexError) → (fault ≡ OutOfMemory → ⊥)
+    → (fault ≡ OutOfMemory) ⊎ (decode_of digits ≡ Err fault) → (bytes : List ℕ) × IsHex digits bytes → ⊥
 no_hex digits fault known (inl wanting) h = known wanting
 no_hex digits fault known (inr refused) (bytes, hex) = let found = hex_decodes digits bytes hex in cc (sym refused ∙ found.1)

@@ -1,5 +1,6 @@
 -- What was read of the input.
-use Rattle.std.proofs.Common.{◌≡◌, ℕ, ◌+◌, ◌<◌, ◌≤◌, Bool, true, false, List, length, replicate, Option, Some, None, Result, Ok, Err, refl, sym, ap, subst, ◌∙◌, arith}
+use Rattle.std.proofs.Common.{◌≡◌, ℕ, ◌+◌, ◌<◌, ◌≤◌, Bool, true, false, List, length, replicate, Option, Some, None}
+use Rattle.std.proofs.Common.{Result, Ok, Err, refl, sym, ap, subst, ◌∙◌, arith}
 use Rattle.std.specs.Prelude.{nat_le, if◌then◌else◌}
 use Rattle.std.proofs.lemmas.Bool.{le-leb}
 use Rattle.std.proofs.lemmas.List.{length-replicate}
@@ -14,7 +15,8 @@ fits bytes short = ap (λ (t : Bool). if t then Ok bytes else Err InputTooLarge)
 too_long : (bytes : List ℕ) → most_input < length bytes → fitting_input bytes ≡ Err InputTooLarge
 too_long bytes long = by_test (nat_le (length bytes) most_input) refl
   where
-    by_test : (t : Bool) → nat_le (length bytes) most_input ≡ t → ◌≡◌ {A = Result (List ℕ) Cause} (if t then Ok bytes else Err InputTooLarge) (Err InputTooLarge)
+    by_test : (t : Bool) → nat_le (length bytes) most_input ≡ t
+        → ◌≡◌ {A = Result (List ℕ) Cause} (if t then Ok bytes else Err InputTooLarge) (Err InputTooLarge)
     by_test true is = let short : length bytes ≤ most_input = grind (arith, is) in absurd (omega (arith, short, long))
     by_test false is = refl
 

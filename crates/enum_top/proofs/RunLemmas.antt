@@ -1,87 +1,81 @@
--- From how a run goes to what its answers mean.
-use Rattle.std.proofs.Common.{◌≡◌, ◌⊎◌, inl, inr, ℕ, List, take, Result, Ok, Err, refl, sym, ap, subst, ◌∙◌}
+-- From how a run goes to what it always answers.
+use Rattle.std.proofs.Common.{◌≡◌, ◌⊎◌, inl, inr, ℕ, List, refl, subst}
+use Rattle.enum_base.specs.Causes.{Blames, Rose}
 use Rattle.enum_base.specs.Outside.{SinkState}
-use Rattle.enum_base.specs.Writing.{Gains, Takes}
+use Rattle.enum_base.specs.Writing.{Takes}
 use Rattle.request_words.proofs.ReadingLemmas.{one_request}
-use Rattle.request_words.specs.Words.{IsRequest, Means}
+use Rattle.request_words.specs.Words.{Means}
 use Rattle.request_words.specs.declared.request.Request.{Request}
-use Rattle.enum_top.specs.Answers.{Answers, AreTold, Breaks, ComesTo, IsText, Leaves}
-use Rattle.enum_top.specs.Endings.{status_of, ended_as, IsPlain}
-use Rattle.enum_top.specs.FaultLines.{cause_line, line_of}
-use Rattle.enum_top.specs.Running.{Ends, EndsWith, Keeps, ended}
-use Rattle.enum_top.specs.Verdicts.{Told, Verdict}
+use Rattle.enum_top.specs.FaultLines.{line_of}
+use Rattle.enum_top.specs.Requests.{ComesTo, Need, work_of}
+use Rattle.enum_top.specs.Running.{EndsWith, Runs}
+use Rattle.enum_top.specs.Verdicts.{AreTold, Told, Verdict}
 use Rattle.enum_top.specs.Verdicts.Verdict.{prints, refuses}
-use Rattle.enum_top.specs.declared.cause.Cause.{Cause}
-use Rattle.enum_top.specs.declared.refusal.Refusal.{Refusal}
-use Rattle.enum_top.specs.declared.refusal.Refusal.TheVariants.{Usage, IllFormed, Outside, Memory}
-use Rattle.enum_top.specs.declared.status.Ending.{Ending}
-use Rattle.enum_top.specs.declared.status.Object.TheVariants.{Shelf, Input, Output}
+use Rattle.enum_top.specs.declared.objects.Object.{Object}
+use Rattle.enum_top.specs.declared.objects.Object.TheVariants.{Shelf, Input, Output}
 use Rattle.enum_top.specs.declared.status.Status.{Status}
-use Rattle.enum_top.specs.declared.status.Status.TheVariants as status
-use Rattle.enum_top.proofs.Statuses.{at_ending, at_refusal, at_cause}
+use Rattle.enum_top.specs.declared.status.Status.TheVariants.{Ended, Refused}
+use Rattle.enum_top.specs.declared.why.Why.{Why}
+use Rattle.enum_top.specs.declared.why.Why.TheVariants.{Usage, Judged, Outside, Memory}
 
 -- the words come to this verdict, and they mean this request
-answers_of : (told : Told) (words : List (List ℕ)) (request : Request) (verdict : Verdict) → Means words request → ComesTo told words verdict → Answers told words request verdict
-answers_of told words request verdict means c =
-    subst (λ (r : Request). Answers told words r verdict) (one_request words c.request request c.means means) c.answers
+answers_of : (told : Told) (words : List (List ℕ)) (asked : Request) (verdict : Verdict) → Means words asked
+    → ComesTo told words verdict → (work_of words asked).answers told verdict
+answers_of told words asked verdict means c =
+    subst (λ (r : Request). (work_of words r).answers told verdict) (one_request words c.asked asked c.means means) c.answers
+
+-- the words use this object, and they mean this request
+uses_of : (words : List (List ℕ)) (asked : Request) (object : Object) → Means words asked → Need words object → (work_of words asked).uses object
+uses_of words asked object means (other, other_means, used) =
+    subst (λ (r : Request). (work_of words r).uses object) (one_request words other asked other_means means) used
 
 -- the law that over told objects a request comes to one verdict
 abbrev pub HasOneVerdict : Type 0
-HasOneVerdict = (told : Told) (words : List (List ℕ)) (request : Request) (one other : Verdict) → AreTold request told → Answers told words request one → Answers told words request other → one ≡ other
+HasOneVerdict = (told : Told) (words : List (List ℕ)) (asked : Request) (one other : Verdict)
+    → AreTold (work_of words asked) told → (work_of words asked).answers told one
+    → (work_of words asked).answers told other → one ≡ other
 
-module _ (told : Told) (words : List (List ℕ)) (out out' err err' : SinkState) (end : Status) (r : Ends told words out out' err err' end) where
-  pub ends_usage : (end ≡ status.Usage → ¬ IsRequest words) × ((¬ IsRequest words) → end ≡ status.Usage)
-  ends_usage = (
-    λ e. r.runs.usage (at_refusal r.result Usage tt (sym r.is ∙ e)),
-    λ none. r.is ∙ ap ended (r.runs.request none),
-  )
+module _ (told : Told) (words : List (List ℕ)) (out out' err err' : SinkState) (end : Status)
+    (runs : Runs told words out out' end) (line : (why : Why) → end ≡ Refused why → Takes err err' (line_of words why))
+    (asked : Request) (means : Means words asked)
+    (calm : (object : Object) → (work_of words asked).uses object → end ≡ Refused (Outside object) → ⊥)
+    (written : end ≡ Refused (Outside Output) → ⊥) where
+  failed : (object : Object) → end ≡ Refused (Outside object) → Need words object ⊎ (object ≡ Output) → ⊥
+  failed object e (inl need) = calm object (uses_of words asked object means need) e
+  failed object e (inr is) = written (subst (λ (o : Object). end ≡ Refused (Outside o)) is e)
 
-  pub ends_early : (request : Request) (cause : Cause) → Means words request → Breaks words request cause → (end ≡ status.IllFormed) × Takes err err' (cause_line words cause)
-  ends_early request cause m b =
-      let is = r.runs.early request cause m b in (r.is ∙ ap ended is, r.tells (IllFormed cause) is)
-
-  pub ends_printed : (ending : Ending) → end ≡ status_of ending → (text : List ℕ) × ComesTo told words (prints ending text) × Gains out out' text
-  ends_printed ending e = r.runs.printed ending (at_ending r.result ending (sym r.is ∙ e))
-
-  pub ends_ill_formed : end ≡ status.IllFormed → (cause : Cause) × ((front : List ℕ) × ComesTo told words (refuses front cause) × Gains out out' front) × Takes err err' (cause_line words cause)
-  ends_ill_formed e =
-      let found = at_cause r.result (sym r.is ∙ e) in
-      (found.0, r.runs.refused found.0 found.1, r.tells (IllFormed found.0) found.1)
-
-  pub ends_kept : (why : Refusal) → Keeps why → end ≡ ended_as why → (front : List ℕ) × Leaves told words front × Gains out out' front
-  ends_kept why k e = r.runs.kept why k (at_refusal r.result why (plain why k) (sym r.is ∙ e))
+  pub ends_answered : ((verdict : Verdict) × (work_of words asked).answers told verdict × EndsWith words verdict end out out' err err') ⊎ (end ≡ Refused Memory)
+  ends_answered = at end refl
     where
-      plain : (why : Refusal) → Keeps why → IsPlain why
-      plain Usage k = tt
-      plain (IllFormed cause) k = k
-      plain (Outside object) k = tt
-      plain Memory k = tt
+      at : (status : Status) → end ≡ status
+          → ((verdict : Verdict) × (work_of words asked).answers told verdict
+          × EndsWith words verdict end out out' err err') ⊎ (end ≡ Refused Memory)
+      at (Ended ending) e =
+          let found = runs.printed ending e in
+          inl (prints ending found.0, answers_of told words asked (prints ending found.0) means found.1, (e, found.2))
+      at (Refused Usage) e = absurd (runs.usage e (asked, means))
+      at (Refused (Judged cause)) e =
+          let found = runs.judged cause e in
+          inl (refuses found.0 cause, answers_of told words asked (refuses found.0 cause) means found.1, (e, found.2, line (Judged cause) e))
+      at (Refused (Outside object)) e = absurd (failed object e (runs.failed object e))
+      at (Refused Memory) e = inr e
 
-  pub ends_cut : end ≡ status.Outside Output → (text : List ℕ) × IsText told words text × ((n : ℕ) × Gains out out' (take n text))
-  ends_cut e = r.runs.cut (at_refusal r.result (Outside Output) tt (sym r.is ∙ e))
-
-  pub ends_line : (why : Refusal) → IsPlain why → end ≡ ended_as why → Takes err err' (line_of words why)
-  ends_line why p e = r.tells why (at_refusal r.result why p (sym r.is ∙ e))
-
-  pub ends_answered : (request : Request) → Means words request → (end ≡ status.Outside Shelf → ⊥) → (end ≡ status.Outside Input → ⊥) → (end ≡ status.Outside Output → ⊥) → ((verdict : Verdict) × Answers told words request verdict × EndsWith words verdict end out out' err err') ⊎ (end ≡ status.Memory)
-  ends_answered request means no_shelf no_input no_output = at r.result refl
+  pub ends_always : HasOneVerdict → (verdict : Verdict) → AreTold (work_of words asked) told
+      → (work_of words asked).answers told verdict
+      → EndsWith words verdict end out out' err err' ⊎ (end ≡ Refused Memory)
+  ends_always law verdict seen h = at ends_answered
     where
-      at : (result : Result Ending Refusal) → r.result ≡ result → ((verdict : Verdict) × Answers told words request verdict × EndsWith words verdict end out out' err err') ⊎ (end ≡ status.Memory)
-      at (Ok ending) e =
-          let found = r.runs.printed ending e in
-          inl (prints ending found.0, answers_of told words request (prints ending found.0) means found.1, (r.is ∙ ap ended e, found.2))
-      at (Err Usage) e = absurd (r.runs.usage e (request, means))
-      at (Err (IllFormed cause)) e =
-          let found = r.runs.refused cause e in
-          inl (refuses found.0 cause, answers_of told words request (refuses found.0 cause) means found.1, (r.is ∙ ap ended e, found.2, r.tells (IllFormed cause) e))
-      at (Err (Outside Shelf)) e = absurd (no_shelf (r.is ∙ ap ended e))
-      at (Err (Outside Input)) e = absurd (no_input (r.is ∙ ap ended e))
-      at (Err (Outside Output)) e = absurd (no_output (r.is ∙ ap ended e))
-      at (Err Memory) e = inr (r.is ∙ ap ended e)
-
-  pub ends_always : HasOneVerdict → (request : Request) (verdict : Verdict) → Means words request → AreTold request told → Answers told words request verdict → (end ≡ status.Outside Shelf → ⊥) → (end ≡ status.Outside Input → ⊥) → (end ≡ status.Outside Output → ⊥) → EndsWith words verdict end out out' err err' ⊎ (end ≡ status.Memory)
-  ends_always law request verdict means seen h no_shelf no_input no_output = at (ends_answered request means no_shelf no_input no_output)
-    where
-      at : ((other : Verdict) × Answers told words request other × EndsWith words other end out out' err err') ⊎ (end ≡ status.Memory) → EndsWith words verdict end out out' err err' ⊎ (end ≡ status.Memory)
-      at (inl (other, a, ends)) = inl (subst (λ (v : Verdict). EndsWith words v end out out' err err') (law told words request other verdict seen a h) ends)
+      at : ((other : Verdict) × (work_of words asked).answers told other × EndsWith words other end out out' err err')
+          ⊎ (end ≡ Refused Memory) → EndsWith words verdict end out out' err err' ⊎ (end ≡ Refused Memory)
+      at (inl (other, a, ends)) = inl (subst (λ (v : Verdict). EndsWith words v end out out' err err') (law told words asked other verdict seen a h) ends)
       at (inr wanting) = inr wanting
+
+-- no object that is used failed
+pub calm_objects : (Used : Object → Type 0) (end : Status) (shelf shelf' input input' out out' : ℕ)
+    → (Used Shelf → Rose shelf shelf' → ⊥) → (Used Input → Rose input input' → ⊥) → (Rose out out' → ⊥)
+    → Blames shelf shelf' (end ≡ Refused (Outside Shelf)) → Blames input input' (end ≡ Refused (Outside Input))
+    → Blames out out' (end ≡ Refused (Outside Output)) → (object : Object) → Used object
+    → end ≡ Refused (Outside object) → ⊥
+calm_objects Used end shelf shelf' input input' out out' calm_shelf calm_input calm_out b d f Shelf used e = calm_shelf used (b.only e)
+calm_objects Used end shelf shelf' input input' out out' calm_shelf calm_input calm_out b d f Input used e = calm_input used (d.only e)
+calm_objects Used end shelf shelf' input input' out out' calm_shelf calm_input calm_out b d f Output used e = calm_out (f.only e)

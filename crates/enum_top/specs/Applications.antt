@@ -93,13 +93,13 @@ Keys Snaptr text apex result = result ≡ domain_key (key_of text)
 Keys Unaptr text apex result = result ≡ domain_key (key_of text)
 
 -- what is asked: the original string, the wanted list, and the domain
-pub record Asked : Type 0 where
+pub record Inquiry : Type 0 where
   pub string : List ℕ
   pub want : Option (List ℕ)
   pub key : Labels
 
 -- what the words ask: first the string, then the wanted list, then the apex and the domain
-abbrev pub Asks : List (List ℕ) → AppName → ℕ → Option ℕ → Option ℕ → Result Asked Cause → Type 0
+abbrev pub Asks : List (List ℕ) → AppName → ℕ → Option ℕ → Option ℕ → Result Inquiry Cause → Type 0
 Asks words app string want apex =
     Then (Strings app (text_at words string)) (λ original.
     Then (Wants app (option_map (text_at words) want)) (λ wanted.

@@ -11,10 +11,10 @@ use Rattle.zone_db.specs.FaultWords.{add_fault}
 use Rattle.zone_text.specs.FaultWords.{text_fault}
 use Rattle.enum_top.specs.declared.cause.Cause.{Cause}
 use Rattle.enum_top.specs.declared.cause.Cause.TheVariants.{Number, Domain, Want, Apex, Key, Absent, Text, Zone, Set, InputTooLarge, Hex, Message}
-use Rattle.enum_top.specs.declared.refusal.Refusal.{Refusal}
-use Rattle.enum_top.specs.declared.refusal.Refusal.TheVariants.{Usage, IllFormed, Outside, Memory}
-use Rattle.enum_top.specs.declared.status.Object.{Object}
-use Rattle.enum_top.specs.declared.status.Object.TheVariants.{Shelf, Input, Output}
+use Rattle.enum_top.specs.declared.why.Why.{Why}
+use Rattle.enum_top.specs.declared.why.Why.TheVariants.{Usage, Judged, Outside, Memory}
+use Rattle.enum_top.specs.declared.objects.Object.{Object}
+use Rattle.enum_top.specs.declared.objects.Object.TheVariants.{Shelf, Input, Output}
 
 -- the line of what a file is; the file is named by the word at its place
 abbrev pub file_line : List ℕ → List (List ℕ) → ℕ → List ℕ → List ℕ
@@ -42,8 +42,8 @@ outside_line Input = codes "enumd: outside input\n"
 outside_line Output = codes "enumd: outside output\n"
 
 -- the line of a refusal
-abbrev pub line_of : List (List ℕ) → Refusal → List ℕ
+abbrev pub line_of : List (List ℕ) → Why → List ℕ
 line_of words Usage = codes "enumd: usage\n"
-line_of words (IllFormed cause) = cause_line words cause
+line_of words (Judged cause) = cause_line words cause
 line_of words (Outside object) = outside_line object
 line_of words Memory = codes "enumd: memory\n"

@@ -1,10 +1,12 @@
-pub mod Answers
 pub mod Applications
 pub mod Endings
 pub mod FaultLines
+pub mod Handling
 pub mod Inputs
+pub mod Requests
 pub mod Resolving
 pub mod Running
 pub mod Showing
 pub mod Verdicts
+pub mod Walking
 pub mod ZoneFiles

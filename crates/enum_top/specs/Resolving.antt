@@ -1,5 +1,5 @@
 -- What `resolve APP STRING` comes to.
-use Rattle.std.specs.Prelude.{◌≡◌, ℕ, List, [], ◌∷◌, Option, Result, Ok}
+use Rattle.std.specs.Prelude.{◌≡◌, ℕ, List, [], ◌∷◌, take, Option, Result, Ok, Err}
 use Rattle.dns_name.specs.Name.{folded_labels}
 use Rattle.ddds_walk.specs.Report.{Answers}
 use Rattle.ddds_walk.specs.Rules.{Client, client_of}
@@ -10,17 +10,22 @@ use Rattle.zone_build.specs.Plain.{told}
 use Rattle.zone_build.specs.Zone.{Zone}
 use Rattle.report_text.specs.Printing.{printed}
 use Rattle.request_words.specs.declared.request.AppName.{AppName}
-use Rattle.enum_top.specs.Applications.{Asked, Asks, meaning_of}
+use Rattle.request_words.specs.declared.request.Origin.{Origin}
+use Rattle.request_words.specs.declared.request.Origin.TheVariants.{Files}
+use Rattle.request_words.specs.declared.request.Resolution.{Resolution}
+use Rattle.enum_top.specs.Applications.{Asks, Inquiry, meaning_of}
 use Rattle.enum_base.specs.Stages.{Then}
+use Rattle.enum_top.specs.Verdicts.{AtOnce, Work}
 use Rattle.enum_top.specs.ZoneFiles.{ZonesOf}
 use Rattle.enum_top.specs.declared.cause.Cause.{Cause}
+use Rattle.enum_top.specs.declared.objects.Object.TheVariants.{Shelf}
 use Rattle.enum_top.specs.declared.status.Ending.{Ending}
 use Rattle.enum_top.specs.declared.status.Ending.TheVariants as ending
 use Rattle.enum_top.specs.declared.status.Printed.{Printed}
 
 -- who asks: the application, with the wanted list and the original string
-abbrev pub client_for : AppName → Asked → Client
-client_for app asked = client_of (meaning_of app) asked.want asked.string
+abbrev pub client_for : AppName → Inquiry → Client
+client_for app inquiry = client_of (meaning_of app) inquiry.want inquiry.string
 
 -- whether a report has an end, none, or is a loop
 abbrev pub ending_of : Report → Ending
@@ -33,11 +38,25 @@ abbrev pub printed_as : Report → Printed
 printed_as report = record { ending = ending_of report; text = printed report }
 
 -- the text of what a walk over the zones answers
-abbrev pub Reports : AppName → Asked → List Zone → Result Printed Cause → Type 0
-Reports app asked zones result =
-    (report : Report) × Answers (client_for app asked) (told zones) (folded_labels asked.key) report × (result ≡ Ok (printed_as report))
+abbrev pub Reports : AppName → Inquiry → List Zone → Result Printed Cause → Type 0
+Reports app inquiry zones result =
+    (report : Report) × Answers (client_for app inquiry) (told zones) (folded_labels inquiry.key) report × (result ≡ Ok (printed_as report))
+
+-- the places of the names of the files
+abbrev pub files_of : Origin → List ℕ
+files_of (Files zones) = take zones.count zones.at
 
 -- what is asked, then the zones of the files, then the report
-abbrev pub Resolves : Option (List File) → List (List ℕ) → AppName → ℕ → Option ℕ → Option ℕ → List ℕ → Result Printed Cause → Type 0
-Resolves files words app string want apex places =
-    Then (Asks words app string want apex) (λ asked. Then (ZonesOf files words places) (Reports app asked))
+abbrev pub Resolves : Option (List File) → List (List ℕ) → Resolution → Result Printed Cause → Type 0
+Resolves files words asked =
+    Then (Asks words asked.app asked.string asked.want asked.apex) (λ inquiry.
+    Then (ZonesOf files words (files_of asked.origin)) (Reports asked.app inquiry))
+
+-- the work of `resolve`: the string, the wanted list, the apex and the domain are of the words alone
+abbrev pub resolve_work : List (List ℕ) → Resolution → Work
+resolve_work words asked = record {
+  answers = λ told. AtOnce (Resolves told.files words asked);
+  breaks = λ cause. Asks words asked.app asked.string asked.want asked.apex (Err cause);
+  uses = λ object. object ≡ Shelf;
+  fronts = λ told front. ⊥;
+}

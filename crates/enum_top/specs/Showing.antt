@@ -9,8 +9,10 @@ use Rattle.enum_base.specs.Stages.{Then}
 use Rattle.hex.specs.Hex.{IsBytes, encode_lower}
 use Rattle.message_text.specs.Shown.{shown}
 use Rattle.enum_top.specs.Inputs.{Inputs}
+use Rattle.enum_top.specs.Verdicts.{AtOnce, Work}
 use Rattle.enum_top.specs.declared.cause.Cause.{Cause}
 use Rattle.enum_top.specs.declared.cause.Cause.TheVariants as cause
+use Rattle.enum_top.specs.declared.objects.Object.TheVariants.{Input}
 use Rattle.enum_top.specs.declared.status.Ending.TheVariants as ending
 use Rattle.enum_top.specs.declared.status.Printed.{Printed}
 
@@ -51,3 +53,12 @@ shown_as message = record { ending = ending.Done; text = shown message }
 abbrev pub Shows : Option (List ℕ) → Result Printed Cause → Type 0
 Shows input =
     Then (Inputs input) (λ text. Then (Hexes text) (λ bytes. Then (Messages bytes) (λ message result. result ≡ Ok (shown_as message))))
+
+-- the work of `show`
+abbrev pub show_work : Work
+show_work = record {
+  answers = λ told. AtOnce (Shows told.input);
+  breaks = λ cause. ⊥;
+  uses = λ object. object ≡ Input;
+  fronts = λ told front. ⊥;
+}

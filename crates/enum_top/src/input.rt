@@ -1,14 +1,12 @@
 //! The whole input.
-ghost use Rattle.std.specs.Prelude.{◌+◌, IsErrOf};
-ghost use Rattle.enum_base.specs.Causes.{Blames};
-ghost use Rattle.enum_base.specs.Loading.{AreTaken};
-ghost use Rattle.enum_top.specs.Inputs.{Inputs, most_input};
+ghost use Rattle.std.specs.Prelude.{IsErrOf};
+ghost use Rattle.enum_top.specs.Handling.{ReadsInput};
+ghost use Rattle.enum_top.specs.Inputs.{Inputs};
 ghost use Rattle.enum_top.specs.Running.{DoesOnInput};
-ghost use Rattle.enum_top.specs.declared.refusal.Refusal.TheVariants as refusal;
 
 use crate::cause::Cause;
-use crate::refusal::Refusal;
-use crate::status::Object;
+use crate::objects::Object;
+use crate::why::Why;
 use enum_base::{Bytes, LoadFault, Source, load};
 use std::alloc::Global;
 
@@ -18,17 +16,15 @@ const MOST: usize = 16 * 1024 * 1024;
 /// Reads the input to its end, which may have at most 16 MiB. At most 4,096 bytes more are taken of it.
 ///
 /// # Errors
-/// `IllFormed` where it has more, `Outside` where it failed, and `Memory`.
-pub(crate) fn read_input<I: Source>(alloc: Global, input: &mut I) -> Result<Bytes, Refusal>
+/// `Judged` where it has more, `Outside` where it failed, and `Memory`.
+pub(crate) fn read_input<I: Source>(alloc: Global, input: &mut I) -> Result<Bytes, Why>
     ensures does { DoesOnInput (Inputs (I.state input.old).left) result }
-    ensures input { Blames (I.state input.old).faults (I.state input.new).faults (IsErrOf result (refusal.Outside Object.Input)) }
-    ensures taken { ¬ IsErrOf result (refusal.Outside Object.Input)
-        → AreTaken (most_input + 4096) (I.state input.old).left (I.state input.new).left }
+    ensures input { ReadsInput (I.state input.old) (I.state input.new) (IsErrOf result (Why.Outside Object.Input)) }
 {
     match load(alloc, MOST, input) {
         Ok(bytes) => Ok(bytes),
-        Err(LoadFault::TooLarge) => Err(Refusal::IllFormed(Cause::InputTooLarge)),
-        Err(LoadFault::Failed) => Err(Refusal::Outside(Object::Input)),
-        Err(LoadFault::Memory) => Err(Refusal::Memory),
+        Err(LoadFault::TooLarge) => Err(Why::Judged(Cause::InputTooLarge)),
+        Err(LoadFault::Failed) => Err(Why::Outside(Object::Input)),
+        Err(LoadFault::Memory) => Err(Why::Memory),
     }
 }

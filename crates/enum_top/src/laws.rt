@@ -1,8 +1,8 @@
 //! What a request comes to is one thing.
 ghost use Rattle.std.specs.Prelude.{◌≡◌, ℕ, List, []};
 ghost use Rattle.request_words.specs.declared.request.Request.{Request};
-ghost use Rattle.enum_top.specs.Answers.{Answers, AreTold, Breaks};
-ghost use Rattle.enum_top.specs.Verdicts.{Told, Verdict};
+ghost use Rattle.enum_top.specs.Requests.{work_of};
+ghost use Rattle.enum_top.specs.Verdicts.{AreTold, IsSound, Told, Verdict};
 ghost use Rattle.enum_top.specs.Verdicts.Verdict.{refuses};
 ghost use Rattle.enum_top.specs.declared.cause.Cause.{Cause};
 
@@ -14,34 +14,43 @@ use zone_text::{breaks_once, says_once, says_or_breaks, says_when_unbroken};
 /// A request comes to a verdict, whatever the objects tell.
 pub fn some_verdict()
     ensures { (told : Told) (words : List (List ℕ)) (request : Request)
-        → (verdict : Verdict) × Answers told words request verdict }
+        → (verdict : Verdict) × (work_of words request).answers told verdict }
 {
-    says_when_unbroken();
-    zone_or_fault();
-    one_add_fault();
-    rules_are_apart();
-    some_report();
-    message_is_one();
+    sound_work();
 }
 
 /// Over told objects it comes to one verdict at most.
 pub fn one_verdict()
     ensures { (told : Told) (words : List (List ℕ)) (request : Request) (one other : Verdict)
-        → AreTold request told → Answers told words request one → Answers told words request other → one ≡ other }
+        → AreTold (work_of words request) told → (work_of words request).answers told one → (work_of words request).answers told other
+        → one ≡ other }
 {
-    says_once();
-    breaks_once();
-    says_or_breaks();
-    one_zone();
-    one_zone_fault();
-    one_add_fault();
-    one_report();
-    one_loop();
-    message_is_one();
+    sound_work();
 }
 
 /// .. which is the refusal of a cause that the words alone are.
 pub fn early_verdict()
     ensures { (told : Told) (words : List (List ℕ)) (request : Request) (cause : Cause)
-        → Breaks words request cause → Answers told words request (refuses [] cause) }
-{}
+        → (work_of words request).breaks cause → (work_of words request).answers told (refuses [] cause) }
+{
+    sound_work();
+}
+
+// All three, of the work of every request.
+fn sound_work()
+    ensures { (words : List (List ℕ)) (request : Request) → IsSound (work_of words request) }
+{
+    says_once();
+    breaks_once();
+    says_or_breaks();
+    says_when_unbroken();
+    one_zone();
+    one_zone_fault();
+    zone_or_fault();
+    one_add_fault();
+    rules_are_apart();
+    one_report();
+    one_loop();
+    some_report();
+    message_is_one();
+}

@@ -1,19 +1,22 @@
 //! The top call: all that the program does, from its words to its status.
 #![tactic(auto)]
 
-mod asked;
 mod cause;
 mod commands;
 mod input;
+mod inquiry;
 mod laws;
-mod refusal;
+mod objects;
 mod status;
 mod top;
+mod why;
 mod zone_file;
 mod zones;
 
 pub use cause::Cause;
 pub use laws::{early_verdict, one_verdict, some_verdict};
-pub use request_words::{AppName, Origin, Places, Request, Usage, read_words};
-pub use status::{Ending, Object, Status};
+pub use objects::Object;
+pub use request_words::{AppName, Origin, Places, Request, Resolution, Usage, read_words};
+pub use status::{Ending, Status};
 pub use top::run;
+pub use why::Why;

@@ -1,20 +1,10 @@
 //! How a run ends.
 ghost use Rattle.std.specs.Prelude.{◌≡◌};
-ghost use Rattle.enum_top.specs.Endings.{code_of, ended_as, status_of};
+ghost use Rattle.enum_top.specs.Endings.{code_of, code_of_cause, code_of_ending, code_of_why};
 
-use crate::refusal::Refusal;
+use crate::cause::Cause;
+use crate::why::Why;
 use enum_base::Bytes;
-
-/// An object of the outside that may fail.
-#[derive(Clone, Copy, Debug, PartialEq, Eq)]
-pub enum Object {
-    /// The files.
-    Shelf,
-    /// What is read from its start to its end, as standard input.
-    Input,
-    /// Where the text goes.
-    Output,
-}
 
 /// What a whole text comes to.
 #[derive(Clone, Copy, Debug, PartialEq, Eq)]
@@ -37,22 +27,10 @@ pub(crate) struct Printed {
 /// How a run ended.
 #[derive(Clone, Copy, Debug, PartialEq, Eq)]
 pub enum Status {
-    /// The text was printed: a report that has an end or more, or a message.
-    Done,
-    /// The report was printed, and it has no end.
-    Nothing,
-    /// The words are no request.
-    Usage,
-    /// The string, the wanted list, the apex or the number's domain is ill-formed; or a file is not there, its text is
-    /// ill-formed, its records make no zone, or its zone does not go to those before it; or the input is too large, no
-    /// hexadecimal, or no message.
-    IllFormed,
-    /// The report was printed, and it is a loop.
-    Loop,
-    /// A call of this object failed.
-    Outside(Object),
-    /// Memory was out.
-    Memory,
+    /// The text was printed.
+    Ended(Ending),
+    /// It ended without a text.
+    Refused(Why),
 }
 
 impl Status {
@@ -61,40 +39,42 @@ impl Status {
         ensures { result ≡ code_of self }
     {
         match self {
-            Status::Done => 0,
-            Status::Nothing => 1,
-            Status::Usage => 2,
-            Status::IllFormed => 3,
-            Status::Loop => 4,
-            Status::Outside(_) => 5,
-            Status::Memory => 6,
+            Status::Ended(ending) => ending.code(),
+            Status::Refused(why) => why.code(),
         }
     }
 }
 
 impl Ending {
-    /// The status of a text that was printed whole.
-    pub(crate) fn status(self) -> Status
-        ensures { result ≡ status_of self }
+    fn code(self) -> u8
+        ensures { result ≡ code_of_ending self }
     {
         match self {
-            Ending::Done => Status::Done,
-            Ending::Nothing => Status::Nothing,
-            Ending::Loop => Status::Loop,
+            Ending::Done => 0,
+            Ending::Nothing => 1,
+            Ending::Loop => 4,
         }
     }
 }
 
-impl Refusal {
-    /// The status that a refusal ends with.
-    pub(crate) fn status(&self) -> Status
-        ensures { result ≡ ended_as self.now }
+impl Why {
+    fn code(self) -> u8
+        ensures { result ≡ code_of_why self }
     {
         match self {
-            Refusal::Usage => Status::Usage,
-            Refusal::IllFormed(_) => Status::IllFormed,
-            Refusal::Outside(object) => Status::Outside(*object),
-            Refusal::Memory => Status::Memory,
+            Why::Usage => 2,
+            Why::Judged(cause) => cause.code(),
+            Why::Outside(_) => 5,
+            Why::Memory => 6,
         }
+    }
+}
+
+impl Cause {
+    // What is ill-formed has one code.
+    fn code(self) -> u8
+        ensures { result ≡ code_of_cause self }
+    {
+        3
     }
 }

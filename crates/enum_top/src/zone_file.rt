@@ -4,13 +4,13 @@ ghost use Rattle.enum_base.specs.Loading.{AreTaken, TakesAtMost};
 ghost use Rattle.enum_base.specs.Outside.{WhereTold};
 ghost use Rattle.request_words.specs.Words.{text_at, texts_of};
 ghost use Rattle.zone_text.specs.Zone.{most_bytes};
-ghost use Rattle.enum_top.specs.Running.{DoesAlone, DoesOnShelf, LeftText, ReadsShelf, Refuses};
+ghost use Rattle.enum_top.specs.Handling.{ReadsShelf};
+ghost use Rattle.enum_top.specs.Running.{DoesAlone, DoesOnShelf, LeftText, Refuses};
 ghost use Rattle.enum_top.specs.ZoneFiles.{TextAt, Texts};
-ghost use Rattle.enum_top.specs.declared.refusal.Refusal.TheVariants as refusal;
 
 use crate::cause::Cause;
-use crate::refusal::Refusal;
-use crate::status::Object;
+use crate::objects::Object;
+use crate::why::Why;
 use dns_name::Name;
 use dns_wire::Records;
 use enum_base::Shelf;
@@ -28,24 +28,24 @@ pub(crate) fn read_text<S: Shelf>(
     words: &[String],
     place: usize,
     shelf: &mut S,
-) -> Result<Records, Refusal>
+) -> Result<Records, Why>
     ensures does { DoesOnShelf (TextAt (S.state shelf.old).files (texts_of words.now) place) result }
-    ensures shelf { ReadsShelf (S.state shelf.old) (S.state shelf.new) (IsErrOf result (refusal.Outside Object.Shelf)) }
-    ensures taken { ¬ IsErrOf result (refusal.Outside Object.Shelf)
+    ensures shelf { ReadsShelf (S.state shelf.old) (S.state shelf.new) (IsErrOf result (Why.Outside Object.Shelf)) }
+    ensures taken { ¬ IsErrOf result (Why.Outside Object.Shelf)
         → WhereTold (S.state shelf.old).files (TakesAtMost (most_bytes + 4096) (text_at (texts_of words.now) place) (S.state shelf.new).left) }
 {
     match shelf.fetch(text_at(words, place)) {
         Ok(true) => read_rest(alloc, place, shelf),
-        Ok(false) => Err(Refusal::IllFormed(Cause::Absent(place))),
-        Err(_) => Err(Refusal::Outside(Object::Shelf)),
+        Ok(false) => Err(Why::Judged(Cause::Absent(place))),
+        Err(_) => Err(Why::Outside(Object::Shelf)),
     }
 }
 
 // Reads the records of what is left of the fetched file.
-fn read_rest<S: Shelf>(alloc: Global, place: usize, shelf: &mut S) -> Result<Records, Refusal>
+fn read_rest<S: Shelf>(alloc: Global, place: usize, shelf: &mut S) -> Result<Records, Why>
     ensures does { DoesOnShelf (LeftText (S.state shelf.old).left place) result }
-    ensures shelf { ReadsShelf (S.state shelf.old) (S.state shelf.new) (IsErrOf result (refusal.Outside Object.Shelf)) }
-    ensures taken { ¬ IsErrOf result (refusal.Outside Object.Shelf)
+    ensures shelf { ReadsShelf (S.state shelf.old) (S.state shelf.new) (IsErrOf result (Why.Outside Object.Shelf)) }
+    ensures taken { ¬ IsErrOf result (Why.Outside Object.Shelf)
         → AreTaken (most_bytes + 4096) (S.state shelf.old).left (S.state shelf.new).left }
 {
     broken_stays_broken();
@@ -54,7 +54,7 @@ fn read_rest<S: Shelf>(alloc: Global, place: usize, shelf: &mut S) -> Result<Rec
     'pieces: loop {
         let count = match shelf.read(&mut buffer) {
             Ok(count) => count,
-            Err(_) => return Err(Refusal::Outside(Object::Shelf)),
+            Err(_) => return Err(Why::Outside(Object::Shelf)),
         };
         if count == 0 {
             return records_of(place, reader);
@@ -66,7 +66,7 @@ fn read_rest<S: Shelf>(alloc: Global, place: usize, shelf: &mut S) -> Result<Rec
 }
 
 // The records of a text that was fed whole.
-fn records_of(place: usize, reader: ZoneReader) -> Result<Records, Refusal>
+fn records_of(place: usize, reader: ZoneReader) -> Result<Records, Why>
     requires root { reader.origin ≡ [] }
     requires unbroken { reader.fault ≡ None }
     ensures { DoesAlone (Texts place reader.text) result }
@@ -78,11 +78,11 @@ fn records_of(place: usize, reader: ZoneReader) -> Result<Records, Refusal>
 }
 
 // Why a text stops a run.
-fn refusal_of(place: usize, fault: TextFault) -> Refusal
+fn refusal_of(place: usize, fault: TextFault) -> Why
     ensures { Refuses place fault result }
 {
     match fault.why {
-        TextWhy::Memory => Refusal::Memory,
-        _ => Refusal::IllFormed(Cause::Text { file: place, fault }),
+        TextWhy::Memory => Why::Memory,
+        _ => Why::Judged(Cause::Text { file: place, fault }),
     }
 }

@@ -3,13 +3,13 @@ ghost use Rattle.std.specs.Prelude.{Contains, IsErrOf};
 ghost use Rattle.dns_wire.specs.declared.record.Record.{Record};
 ghost use Rattle.request_words.specs.Words.{texts_of};
 ghost use Rattle.zone_build.specs.Zone.{IsPlain};
-ghost use Rattle.enum_top.specs.Running.{DoesAlone, DoesOnShelf, ReadsShelf, zones_after};
+ghost use Rattle.enum_top.specs.Handling.{ReadsShelf};
+ghost use Rattle.enum_top.specs.Running.{DoesAlone, DoesOnShelf, zones_after};
 ghost use Rattle.enum_top.specs.ZoneFiles.{Adds, Builds, ZoneAt, ZonesOf};
-ghost use Rattle.enum_top.specs.declared.refusal.Refusal.TheVariants as refusal;
 
 use crate::cause::Cause;
-use crate::refusal::Refusal;
-use crate::status::Object;
+use crate::objects::Object;
+use crate::why::Why;
 use crate::zone_file::read_text;
 use dns_wire::Records;
 use enum_base::Shelf;
@@ -23,9 +23,9 @@ pub(crate) fn read_zones<S: Shelf>(
     words: &[String],
     places: &[usize],
     shelf: &mut S,
-) -> Result<ZoneSet, Refusal>
+) -> Result<ZoneSet, Why>
     ensures does { DoesOnShelf (ZonesOf (S.state shelf.old).files (texts_of words.now) places.now) result }
-    ensures shelf { ReadsShelf (S.state shelf.old) (S.state shelf.new) (IsErrOf result (refusal.Outside Object.Shelf)) }
+    ensures shelf { ReadsShelf (S.state shelf.old) (S.state shelf.new) (IsErrOf result (Why.Outside Object.Shelf)) }
 {
     let mut zones = ZoneSet::new(alloc);
     for place in places {
@@ -41,33 +41,33 @@ fn read_zone<S: Shelf>(
     words: &[String],
     place: usize,
     shelf: &mut S,
-) -> Result<Zone, Refusal>
+) -> Result<Zone, Why>
     ensures does { DoesOnShelf (ZoneAt (S.state shelf.old).files (texts_of words.now) place) result }
-    ensures shelf { ReadsShelf (S.state shelf.old) (S.state shelf.new) (IsErrOf result (refusal.Outside Object.Shelf)) }
+    ensures shelf { ReadsShelf (S.state shelf.old) (S.state shelf.new) (IsErrOf result (Why.Outside Object.Shelf)) }
 {
     let records = read_text(alloc, words, place, shelf)?;
     build_zone(alloc, place, records)
 }
 
 // The zone of the records of one file.
-fn build_zone(alloc: Global, place: usize, records: Records) -> Result<Zone, Refusal>
+fn build_zone(alloc: Global, place: usize, records: Records) -> Result<Zone, Why>
     requires plain { (one : Record) → Contains records one → IsPlain one }
     ensures { DoesAlone (Builds place records) result }
 {
     match Zone::build(alloc, records) {
         Ok(zone) => Ok(zone),
-        Err(ZoneFault::Memory) => Err(Refusal::Memory),
-        Err(fault) => Err(Refusal::IllFormed(Cause::Zone { file: place, fault })),
+        Err(ZoneFault::Memory) => Err(Why::Memory),
+        Err(fault) => Err(Why::Judged(Cause::Zone { file: place, fault })),
     }
 }
 
 // The zone of one file goes after the others.
-fn add_zone(place: usize, zone: Zone, zones: &mut ZoneSet) -> Result<(), Refusal>
+fn add_zone(place: usize, zone: Zone, zones: &mut ZoneSet) -> Result<(), Why>
     ensures { DoesAlone (λ done. Adds place zones.old zone (zones_after zones.new done)) result }
 {
     match zones.add(zone) {
         Ok(()) => Ok(()),
-        Err((AddFault::Memory, _)) => Err(Refusal::Memory),
-        Err((fault, _)) => Err(Refusal::IllFormed(Cause::Set { file: place, fault })),
+        Err((AddFault::Memory, _)) => Err(Why::Memory),
+        Err((fault, _)) => Err(Why::Judged(Cause::Set { file: place, fault })),
     }
 }

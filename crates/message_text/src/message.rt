@@ -19,7 +19,7 @@ use zone_text::write_fields;
 /// are those of a zone text; options, and RDATA that is not read, are in hexadecimal digits, `-` where there are none.
 ///
 /// # Errors
-/// `MemoryFault` where memory is out.
+/// `MemoryFault` when out of memory.
 pub fn print_message(alloc: Global, message: &Message) -> Result<Bytes, MemoryFault>
     ensures { IfOk result (λ text. text ≡ shown message.now) }
 {

@@ -31,14 +31,17 @@ abbrev AreCuts : {X : Type 0} → List X → X → List X → List X → X → L
 AreCuts before x after before' x' after' =
     ((before ≡ before') × (x ≡ x') × (after ≡ after')) ⊎ (IsEarlier before x after before' x' after' ⊎ IsEarlier before' x' after' before x after)
 
-AreCuts-more : {X : Type 0} (y z : X) (before : List X) (x : X) (after before' : List X) (x' : X) (after' : List X) → y ≡ z → AreCuts before x after before' x' after' → AreCuts (y ∷ before) x after (z ∷ before') x' after'
+AreCuts-more : {X : Type 0} (y z : X) (before : List X) (x : X) (after before' : List X) (x' : X) (after' : List X)
+    → y ≡ z → AreCuts before x after before' x' after' → AreCuts (y ∷ before) x after (z ∷ before') x' after'
 AreCuts-more y z before x after before' x' after' e (inl same) = let f : before ≡ before' = same.0 in inl (cc, same.1, same.2)
 AreCuts-more y z before x after before' x' after' e (inr (inl c)) =
     let f = c.front in inr (inl (record { middle = c.middle; front = cc; back = c.back }))
 AreCuts-more y z before x after before' x' after' e (inr (inr c)) =
     let f = c.front in inr (inr (record { middle = c.middle; front = cc; back = c.back }))
 
-pub two_cuts : {X : Type 0} (before : List X) (x : X) (after before' : List X) (x' : X) (after' : List X) → before ++ x ∷ after ≡ before' ++ x' ∷ after' → ((before ≡ before') × (x ≡ x') × (after ≡ after')) ⊎ (IsEarlier before x after before' x' after' ⊎ IsEarlier before' x' after' before x after)
+pub two_cuts : {X : Type 0} (before : List X) (x : X) (after before' : List X) (x' : X) (after' : List X)
+    → before ++ x ∷ after ≡ before' ++ x' ∷ after'
+    → ((before ≡ before') × (x ≡ x') × (after ≡ after')) ⊎ (IsEarlier before x after before' x' after' ⊎ IsEarlier before' x' after' before x after)
 two_cuts [] x after [] x' after' e = inl (refl, cc, cc)
 two_cuts [] x after (z ∷ before') x' after' e = inr (inl (record { middle = before'; front = cc; back = cc }))
 two_cuts (y ∷ before) x after [] x' after' e = inr (inr (record { middle = before; front = cc; back = cc }))
@@ -46,7 +49,8 @@ two_cuts (y ∷ before) x after (z ∷ before') x' after' e =
     AreCuts-more y z before x after before' x' after' (cc) (two_cuts before x after before' x' after' (cc))
 
 -- of two ends of one list the longer ends in the shorter
-pub ends_in : {X : Type 0} (front back front' back' : List X) → front ++ back ≡ front' ++ back' → length back' ≤ length back → (middle : List X) × (back ≡ middle ++ back')
+pub ends_in : {X : Type 0} (front back front' back' : List X) → front ++ back ≡ front' ++ back'
+    → length back' ≤ length back → (middle : List X) × (back ≡ middle ++ back')
 ends_in [] back front' back' e h = (front', e)
 ends_in (y ∷ front) back [] back' e h =
     let l : length (y ∷ (front ++ back)) ≡ length back' = ap length e in
@@ -54,7 +58,8 @@ ends_in (y ∷ front) back [] back' e h =
 ends_in (y ∷ front) back (z ∷ front') back' e h = ends_in front back front' back' (cc) h
 
 -- a list whose image is made of two parts is made of two parts
-pub map_parts : {X Y : Type 0} (f : X → Y) (xs : List X) (front back : List Y) → map f xs ≡ front ++ back → (one : List X) × (two : List X) × (xs ≡ one ++ two) × (map f one ≡ front) × (map f two ≡ back)
+pub map_parts : {X Y : Type 0} (f : X → Y) (xs : List X) (front back : List Y) → map f xs ≡ front ++ back
+    → (one : List X) × (two : List X) × (xs ≡ one ++ two) × (map f one ≡ front) × (map f two ≡ back)
 map_parts f xs [] back e = ([], xs, refl, refl, e)
 map_parts f [] (y ∷ front) back e = absurd (cc)
 map_parts f (x ∷ xs) (y ∷ front) back e =

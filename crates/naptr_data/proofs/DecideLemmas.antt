@@ -95,7 +95,8 @@ is_delegation other = inr (λ e. cc)
 delegates_or_not : (apex name : Labels) (o : Owned) → Either (Delegates apex name o)
 delegates_or_not apex name o = all (is_delegation o.item) (below_or_not name o.owner) (below_or_not o.owner apex) (same_or_not o.owner apex)
   where
-    all : Either (o.item ≡ delegation) → Either (IsBelow name o.owner) → Either (IsBelow o.owner apex) → Either (AreSame o.owner apex) → Either (Delegates apex name o)
+    all : Either (o.item ≡ delegation) → Either (IsBelow name o.owner) → Either (IsBelow o.owner apex)
+        → Either (AreSame o.owner apex) → Either (Delegates apex name o)
     all (inl item) (inl below) (inl inside) (inr lower) = inl (record { item = item; below = below; inside = inside; lower = lower })
     all (inr not) b c d = inr (λ h. not h.item)
     all (inl item) (inr not) c d = inr (λ h. not h.below)
@@ -118,7 +119,8 @@ delegated_or_not zone name = both (one_or_none (Delegates zone.apex name) (deleg
     both (inr not) = inr (λ d. not (there d))
 
 -- a name that does not exist, above which one does, has a closest encloser
-enclosed : (zone : Zone) (front back : Labels) → Exists zone back → IsBelow back zone.apex → ¬ Exists zone (front ++ back) → (encloser : Labels) × Encloses zone (front ++ back) encloser
+enclosed : (zone : Zone) (front back : Labels) → Exists zone back → IsBelow back zone.apex
+    → ¬ Exists zone (front ++ back) → (encloser : Labels) × Encloses zone (front ++ back) encloser
 enclosed zone [] back here inside not = absurd (not here)
 enclosed zone (label ∷ front) back here inside not = next (λ none. enclosed zone front back here inside none) (exists_or_not zone (front ++ back))
   where
@@ -135,7 +137,8 @@ enclosed zone (label ∷ front) back here inside not = next (λ none. enclosed z
       },
     )
 
-    next : (¬ Exists zone (front ++ back) → (encloser : Labels) × Encloses zone (front ++ back) encloser) → Either (Exists zone (front ++ back)) → (encloser : Labels) × Encloses zone (label ∷ (front ++ back)) encloser
+    next : (¬ Exists zone (front ++ back) → (encloser : Labels) × Encloses zone (front ++ back) encloser)
+        → Either (Exists zone (front ++ back)) → (encloser : Labels) × Encloses zone (label ∷ (front ++ back)) encloser
     next again (inl exists) = (
       front ++ back,
       record {

@@ -47,9 +47,11 @@ exists_same zone one other same (inr (o, c, below)) = inr (o, c, below_same_top 
 -- the part of a name that is the same as the end of another
 abbrev HasEnd : Labels → List ℕ → Labels → Type 0
 HasEnd name label encloser =
-    (front : Labels) × (label' : List ℕ) × (encloser' : Labels) × (name ≡ front ++ label' ∷ encloser') × AreSame (label ∷ encloser) (label' ∷ encloser') × AreSame encloser encloser'
+    (front : Labels) × (label' : List ℕ) × (encloser' : Labels) × (name ≡ front ++ label' ∷ encloser')
+    × AreSame (label ∷ encloser) (label' ∷ encloser') × AreSame encloser encloser'
 
-end_parts : (name front end : Labels) (label : List ℕ) (encloser : Labels) → name ≡ front ++ end → folded_labels end ≡ folded label ∷ folded_labels encloser → HasEnd name label encloser
+end_parts : (name front end : Labels) (label : List ℕ) (encloser : Labels) → name ≡ front ++ end
+    → folded_labels end ≡ folded label ∷ folded_labels encloser → HasEnd name label encloser
 end_parts name front [] label encloser parts e = absurd (cc)
 end_parts name front (label' ∷ encloser') label encloser parts e = (front, label', encloser', parts, sym e, cc)
 
@@ -102,7 +104,8 @@ rules_same items one other rules same are = record {
   rising = are.rising;
 }
 
-served_same : (zones : List Zone) (one other : Labels) (zone : Zone) (source source' : Labels) → AreSame one other → IsServed zones one zone source → IsSource zone other source' → IsServed zones other zone source'
+served_same : (zones : List Zone) (one other : Labels) (zone : Zone) (source source' : Labels) → AreSame one other
+    → IsServed zones one zone source → IsSource zone other source' → IsServed zones other zone source'
 served_same zones one other zone source source' same (decides, not, is) is' =
     (decides_same zones one other zone same decides, λ d. not (delegated_same zone other one (sym same) d), is')
 

@@ -15,7 +15,8 @@ use Rattle.naptr_data.proofs.RisingLemmas.{rising_same}
 pub decides_among : (zones : List Zone) (name : Labels) (zone : Zone) → Decides zones name zone → Contains zones zone
 decides_among zones name zone d = subst (λ zs. Contains zs zone) (sym d.parts) (Contains-middle d.before zone d.after)
 
-earlier_zone : (zones : List Zone) (name : Labels) (one other : Zone) (a : Decides zones name one) (b : Decides zones name other) → IsEarlier a.before one a.after b.before other b.after → ⊥
+earlier_zone : (zones : List Zone) (name : Labels) (one other : Zone) (a : Decides zones name one) (b : Decides zones name other)
+    → IsEarlier a.before one a.after b.before other b.after → ⊥
 earlier_zone zones name one other a b e =
     let shorter = b.longer one (subst (λ zs. Contains zs one) (sym e.front) (Contains-middle a.before one e.middle)) a.above in
     let longer = a.longest other (subst (λ zs. Contains zs other) (sym e.back) (Contains-middle e.middle other b.after)) b.above in
@@ -37,7 +38,8 @@ exists_above zone [] name inside (inl same) = inl same
 exists_above zone (label ∷ front) name inside (inl same) =
     absurd (omega (arith, length_same (label ∷ (front ++ name)) zone.apex same, length_below name zone.apex inside, length-append front name))
 
-earlier_encloser : (zone : Zone) (name one other : Labels) (a : Encloses zone name one) (b : Encloses zone name other) → IsEarlier a.front a.label one b.front b.label other → ⊥
+earlier_encloser : (zone : Zone) (name one other : Labels) (a : Encloses zone name one) (b : Encloses zone name other)
+    → IsEarlier a.front a.label one b.front b.label other → ⊥
 earlier_encloser zone name one other a b e =
     b.closest (exists_above zone e.middle (b.label ∷ other) (below_more b.label other zone.apex b.inside) (subst (λ n. Exists zone n) e.back a.exists))
 
@@ -60,7 +62,9 @@ one_source zone name one other (inr (none, (encloser, encloses, is))) (inr (none
 owned : Labels → Item → Owned
 owned owner item = record { owner = owner; item = item }
 
-earlier_alias : (items : List Owned) (name one other : Labels) (a : IsFirstAlias items name one) (b : IsFirstAlias items name other) → IsEarlier a.before (record { owner = a.owner; item = alias one }) a.after b.before (record { owner = b.owner; item = alias other }) b.after → ⊥
+earlier_alias : (items : List Owned) (name one other : Labels) (a : IsFirstAlias items name one) (b : IsFirstAlias items name other)
+    → IsEarlier a.before (record { owner = a.owner; item = alias one }) a.after b.before (record { owner = b.owner; item = alias other }) b.after
+    → ⊥
 earlier_alias items name one other a b e =
     b.first one (a.owner, subst (λ os. Contains os (record { owner = a.owner; item = alias one })) (sym e.front) (Contains-middle a.before (record { owner = a.owner; item = alias one }) e.middle), a.here)
 
@@ -83,18 +87,21 @@ one_rules items name one other a b =
     rising_same one other a.rising b.rising (λ e c. (b.each e).1 ((a.each e).0 c)) (λ e c. (a.each e).1 ((b.each e).0 c))
 
 -- a name is served, or not
-served_or_not : (zones : List Zone) (name : Labels) (zone : Zone) (source : Labels) → IsServed zones name zone source → NoneServes zones name ⊎ ((z : Zone) × Decides zones name z × IsDelegated z name) → ⊥
+served_or_not : (zones : List Zone) (name : Labels) (zone : Zone) (source : Labels) → IsServed zones name zone source
+    → NoneServes zones name ⊎ ((z : Zone) × Decides zones name z × IsDelegated z name) → ⊥
 served_or_not zones name zone source (decides, not, is) (inl none) = none zone (decides_among zones name zone decides) decides.above
 served_or_not zones name zone source (decides, not, is) (inr (z, decides', delegated)) =
     not (subst (λ w. IsDelegated w name) (one_zone zones name z zone decides' decides) delegated)
 
 -- a name is served from one zone
-one_served : (zones : List Zone) (name : Labels) (zone zone' : Zone) (source source' : Labels) → IsServed zones name zone source → IsServed zones name zone' source' → (zone ≡ zone') × (source ≡ source')
+one_served : (zones : List Zone) (name : Labels) (zone zone' : Zone) (source source' : Labels)
+    → IsServed zones name zone source → IsServed zones name zone' source' → (zone ≡ zone') × (source ≡ source')
 one_served zones name zone zone' source source' (decides, not, is) (decides', not', is') =
     let same : zone ≡ zone' = one_zone zones name zone zone' decides decides' in
     (same, one_source zone' name source source' (subst (λ z. IsSource z name source) same is) is')
 
-alias_and_rules : (zones : List Zone) (name target : Labels) (rules : List Naptr) → IsOffer zones name (offer.Alias target) → IsOffer zones name (offer.Rules rules) → ⊥
+alias_and_rules : (zones : List Zone) (name target : Labels) (rules : List Naptr)
+    → IsOffer zones name (offer.Alias target) → IsOffer zones name (offer.Rules rules) → ⊥
 alias_and_rules zones name target rules (zone, source, served, first) (zone', source', served', are) =
     let same = one_served zones name zone zone' source source' served served' in
     are.none target (subst (λ s. HasItem zone'.items s (alias target)) same.1 (subst (λ (z : Zone). HasItem z.items source (alias target)) same.0 (alias_stands zone.items source target first)))

@@ -23,7 +23,9 @@ All-contained P (y ∷ xs) x all (zero, l, e) = subst P e all.0
 All-contained P (y ∷ xs) x all (suc k, l, e) = All-contained P xs x all.1 (k, omega arith, e)
 
 -- rising lists with the same items are equal
-pub rising_same : (one other : List Naptr) → IsRising one → IsRising other → ((e : Naptr) → Contains one e → Contains other e) → ((e : Naptr) → Contains other e → Contains one e) → one ≡ other
+pub rising_same : (one other : List Naptr) → IsRising one → IsRising other
+    → ((e : Naptr) → Contains one e → Contains other e) → ((e : Naptr) → Contains other e → Contains one e)
+    → one ≡ other
 rising_same [] [] r s to back = refl
 rising_same [] (f ∷ other) r s to back = absurd (Contains-none f (back f (Contains-head f other)))
 rising_same (e ∷ one) [] r s to back = absurd (Contains-none e (to e (Contains-head e one)))
@@ -32,13 +34,15 @@ rising_same (e ∷ one) (f ∷ other) r s to back =
     let rests : one ≡ other = rising_same one other r.1 s.1 (λ x c. after e f one other r.0 heads x c (head_or_after f other x (to x (Contains-after e one x c)))) (λ x c. after f e other one s.0 (sym heads) x c (head_or_after e one x (back x (Contains-after f other x c)))) in
     cc
   where
-    same_heads : (e f : Naptr) (one other : List Naptr) → AllByRecursion (λ o. rank_of e o ≡ Less) one → AllByRecursion (λ o. rank_of f o ≡ Less) other → (e ≡ f) ⊎ Contains other e → (f ≡ e) ⊎ Contains one f → e ≡ f
+    same_heads : (e f : Naptr) (one other : List Naptr) → AllByRecursion (λ o. rank_of e o ≡ Less) one
+        → AllByRecursion (λ o. rank_of f o ≡ Less) other → (e ≡ f) ⊎ Contains other e → (f ≡ e) ⊎ Contains one f → e ≡ f
     same_heads e f one other all all' (inl h) g = h
     same_heads e f one other all all' (inr h) (inl g) = sym g
     same_heads e f one other all all' (inr h) (inr g) =
         absurd (both_ways e f (All-contained (λ o. rank_of e o ≡ Less) one f all g) (All-contained (λ o. rank_of f o ≡ Less) other e all' h))
 
-    after : (e f : Naptr) (one other : List Naptr) → AllByRecursion (λ o. rank_of e o ≡ Less) one → e ≡ f → (x : Naptr) → Contains one x → (x ≡ f) ⊎ Contains other x → Contains other x
+    after : (e f : Naptr) (one other : List Naptr) → AllByRecursion (λ o. rank_of e o ≡ Less) one → e ≡ f → (x : Naptr)
+        → Contains one x → (x ≡ f) ⊎ Contains other x → Contains other x
     after e f one other all h x c (inr d) = d
     after e f one other all h x c (inl d) =
         let self : rank_of x x ≡ Less = subst (λ y. rank_of y x ≡ Less) (h ∙ sym d) (All-contained (λ o. rank_of e o ≡ Less) one x all c) in

@@ -20,7 +20,8 @@ use Rattle.naptr_data.proofs.RisingLemmas.{turned}
 use Rattle.naptr_rule.proofs.RuleLemmas.{rank_of-total, rank_of-equal}
 
 -- each zone that serves the name is at most as long as the one that decides
-at_most : (zones : List Zone) (name : Labels) (zone : Zone) → Decides zones name zone → (z : Zone) → Contains zones z → IsBelow name z.apex → length z.apex ≤ length zone.apex
+at_most : (zones : List Zone) (name : Labels) (zone : Zone) → Decides zones name zone → (z : Zone) → Contains zones z
+    → IsBelow name z.apex → length z.apex ≤ length zone.apex
 at_most zones name zone d z c b =
     elim (Contains-append_cases d.before (zone ∷ d.after) z (subst (λ zs. Contains zs z) d.parts c)) [
       | inl front ↦ let l = d.longer z front b in omega (arith, l)
@@ -35,7 +36,9 @@ at_most zones name zone d z c b =
 abbrev HasDeciding : List Zone → Labels → Type 0
 HasDeciding zones name = NoneServes zones name ⊎ ((zone : Zone) × Decides zones name zone)
 
-first_decides : (zone : Zone) (zones : List Zone) (name : Labels) → IsBelow name zone.apex → ((z : Zone) → Contains zones z → IsBelow name z.apex → length z.apex ≤ length zone.apex) → Decides (zone ∷ zones) name zone
+first_decides : (zone : Zone) (zones : List Zone) (name : Labels) → IsBelow name zone.apex
+    → ((z : Zone) → Contains zones z → IsBelow name z.apex → length z.apex ≤ length zone.apex)
+    → Decides (zone ∷ zones) name zone
 first_decides zone zones name b longest = record {
   before = [];
   after = zones;
@@ -45,7 +48,8 @@ first_decides zone zones name b longest = record {
   longest = longest;
 }
 
-later_decides : (zone : Zone) (zones : List Zone) (name : Labels) (best : Zone) → Decides zones name best → (IsBelow name zone.apex → length zone.apex < length best.apex) → Decides (zone ∷ zones) name best
+later_decides : (zone : Zone) (zones : List Zone) (name : Labels) (best : Zone) → Decides zones name best
+    → (IsBelow name zone.apex → length zone.apex < length best.apex) → Decides (zone ∷ zones) name best
 later_decides zone zones name best d longer = record {
   before = zone ∷ d.before;
   after = d.after;
@@ -65,7 +69,8 @@ has_deciding : (zones : List Zone) (name : Labels) → HasDeciding zones name
 has_deciding [] name = inl (λ z c. absurd (Contains-none z c))
 has_deciding (zone ∷ zones) name = next (below_or_not name zone.apex) (has_deciding zones name)
   where
-    by_length : IsBelow name zone.apex → (best : Zone) → Decides zones name best → (length zone.apex < length best.apex) ⊎ (length best.apex ≤ length zone.apex) → HasDeciding (zone ∷ zones) name
+    by_length : IsBelow name zone.apex → (best : Zone) → Decides zones name best → (length zone.apex < length best.apex)
+        ⊎ (length best.apex ≤ length zone.apex) → HasDeciding (zone ∷ zones) name
     by_length b best d (inl shorter) = inr (best, later_decides zone zones name best d (λ h. shorter))
     by_length b best d (inr longer) =
         inr (zone, first_decides zone zones name b (λ z c h. let l = at_most zones name best d z c h in omega (arith, l, longer)))
@@ -163,7 +168,8 @@ all_of P [] h = tt
 all_of P (x ∷ xs) h = (h x (Contains-head x xs), all_of P xs (λ y c. h y (Contains-after x xs y c)))
 
 -- one more rule among rules in their order
-all_before : (one next : Naptr) (rest : List Naptr) → rank_of one next ≡ Less → AllByRecursion (λ o. rank_of next o ≡ Less) rest → AllByRecursion (λ o. rank_of one o ≡ Less) rest
+all_before : (one next : Naptr) (rest : List Naptr) → rank_of one next ≡ Less
+    → AllByRecursion (λ o. rank_of next o ≡ Less) rest → AllByRecursion (λ o. rank_of one o ≡ Less) rest
 all_before one next [] e h = tt
 all_before one next (o ∷ rest) e h = (rank_of-total.trans one next o e h.0, all_before one next rest e h.1)
 
@@ -257,7 +263,8 @@ rule_here o name = by_item o.item refl (same_or_not o.owner name)
     by_item delegation e s = inr (λ r h. let f = h.0 in cc)
     by_item other e s = inr (λ r h. let f = h.0 in cc)
 
-stands_parts : (o : Owned) (items : List Owned) (name : Labels) (r : Naptr) → HasItem (o ∷ items) name (rule r) → RuleHere o name r ⊎ HasItem items name (rule r)
+stands_parts : (o : Owned) (items : List Owned) (name : Labels) (r : Naptr) → HasItem (o ∷ items) name (rule r)
+    → RuleHere o name r ⊎ HasItem items name (rule r)
 stands_parts o items name r (owner, c, same) = elim (head_or_after o items (record { owner = owner; item = rule r }) c) [
   | inl here ↦ inl (sym (ap (λ (p : Owned). p.item) here), subst (λ (p : Owned). AreSame p.owner name) here same)
   | inr after ↦ inr (owner, after, same)
@@ -332,14 +339,17 @@ has_rules (o ∷ items) name apart =
 abbrev Offered : List Zone → Labels → Type 0
 Offered zones name = (o : Offer) × IsOffer zones name o
 
-from_source : (zones : List Zone) (name : Labels) (zone : Zone) (source : Labels) → Decides zones name zone → ¬ IsDelegated zone name → IsSource zone name source → RulesAreApart zones → HasAlias zone.items source → Offered zones name
+from_source : (zones : List Zone) (name : Labels) (zone : Zone) (source : Labels) → Decides zones name zone
+    → ¬ IsDelegated zone name → IsSource zone name source → RulesAreApart zones → HasAlias zone.items source
+    → Offered zones name
 from_source zones name zone source d not is apart (inl (target, first)) =
     (offer.Alias target, (zone, source, (d, not, is), first))
 from_source zones name zone source d not is apart (inr none) =
     let r = has_rules zone.items source (λ one other h k e. apart zone source one other (decides_among zones name zone d) h k e) in
     (offer.Rules r.rules, (zone, source, (d, not, is), record { none = none; each = r.each; rising = r.rising }))
 
-from_zone : (zones : List Zone) (name : Labels) (zone : Zone) → Decides zones name zone → RulesAreApart zones → Either (IsDelegated zone name) → Offered zones name
+from_zone : (zones : List Zone) (name : Labels) (zone : Zone) → Decides zones name zone → RulesAreApart zones
+    → Either (IsDelegated zone name) → Offered zones name
 from_zone zones name zone d apart (inl delegated) = (offer.Unserved, inr (zone, d, delegated))
 from_zone zones name zone d apart (inr not) =
     let s = has_source zone name d.above in

@@ -13,7 +13,7 @@ use std::alloc::Global;
 /// Why a source has no answer.
 #[derive(Clone, Copy, Debug, PartialEq, Eq)]
 pub enum SourceFault {
-    /// Memory is wanting.
+    /// Out of memory.
     Memory,
     /// The source had trouble, which it counts.
     Trouble,

@@ -61,7 +61,9 @@ unfolding fields_of
 no_pointer a [] = refl
 no_pointer a (l ∷ ls) = no_pointer (a + (length l + 1)) ls
 
-leads : (m : List ℕ) (start a : ℕ) (labels : List (List ℕ)) → AllByRecursion IsLabel labels → StandsAt m a (flat_map label_wire labels) → Leads m start a (fields_of labels) start (a + length (flat_map label_wire labels))
+leads : (m : List ℕ) (start a : ℕ) (labels : List (List ℕ)) → AllByRecursion IsLabel labels
+    → StandsAt m a (flat_map label_wire labels)
+    → Leads m start a (fields_of labels) start (a + length (flat_map label_wire labels))
 unfolding fields_of
 leads m start a [] each there = (refl, omega arith)
 leads m start a (l ∷ ls) each there =
@@ -73,7 +75,8 @@ leads m start a (l ∷ ls) each there =
     ((parts.0, each.0), subst (λ n. Leads m start (a + (length l + 1)) (fields_of ls) start n) end rest)
 
 -- the wire form of a name in a message is that name
-pub name_stands : (m : List ℕ) (at : ℕ) (labels : List (List ℕ)) → IsName labels → StandsAt m at (wire_of labels) → NameAt m at labels (at + length (wire_of labels))
+pub name_stands : (m : List ℕ) (at : ℕ) (labels : List (List ℕ)) → IsName labels → StandsAt m at (wire_of labels)
+    → NameAt m at labels (at + length (wire_of labels))
 name_stands m at labels is stand =
     let whole = length-append (flat_map label_wire labels) (0 ∷ []) in
     let parts = stands_split m at (flat_map label_wire labels) (0 ∷ []) (omega arith) stand in
@@ -90,7 +93,8 @@ name_stands m at labels is stand =
     }
 
 -- a name that is read from offset 0
-led_name : (m : List ℕ) (labels : List (List ℕ)) (next : ℕ) → NameAt m 0 labels next → IsName labels × StandsAt m 0 (wire_of labels) × (next ≡ length (wire_of labels))
+led_name : (m : List ℕ) (labels : List (List ℕ)) (next : ℕ) → NameAt m 0 labels next
+    → IsName labels × StandsAt m 0 (wire_of labels) × (next ≡ length (wire_of labels))
 led_name m labels next n = subst Named (sym n.spelt) (
   record { each = l.labels.each; short = subst (λ x. length (wire_of x) ≤ 255) n.spelt n.short },
   stands_join m 0 (flat_map label_wire own) (0 ∷ []) l.labels.there (subst (λ p. StandsAt m p (0 ∷ [])) l.labels.place n.end),
@@ -128,10 +132,12 @@ there : (bytes : List ℕ) (from : ℕ) (part : List ℕ) → StandsAt bytes fro
 there bytes from part h =
     let e : from ≡ from + 0 = omega arith in to_rest bytes from 0 part (subst (λ n. StandsAt bytes n part) e h)
 
-stand_from : (bytes : List ℕ) (from : ℕ) (labels : List (List ℕ)) (place : ℕ) → LabelsStand (drop from bytes) 0 labels place → LabelsStand bytes from labels (from + place)
+stand_from : (bytes : List ℕ) (from : ℕ) (labels : List (List ℕ)) (place : ℕ)
+    → LabelsStand (drop from bytes) 0 labels place → LabelsStand bytes from labels (from + place)
 stand_from bytes from labels place (is, stand, e) = (is, here bytes from (flat_map label_wire labels) stand, omega arith)
 
-bare_ok : (bytes : List ℕ) (from : ℕ) (labels : List (List ℕ)) (next : ℕ) → NameAt (drop from bytes) 0 labels next → BareName bytes from (Ok (labels, from + next))
+bare_ok : (bytes : List ℕ) (from : ℕ) (labels : List (List ℕ)) (next : ℕ) → NameAt (drop from bytes) 0 labels next
+    → BareName bytes from (Ok (labels, from + next))
 bare_ok bytes from labels next n =
     let l = led_name (drop from bytes) labels next n in
     inl (labels, l.0, here bytes from (wire_of labels) l.1, ap (λ x. Ok (labels, from + x)) l.2)
@@ -147,7 +153,9 @@ bare_err : (bytes : List ℕ) (from : ℕ) (fault : WireFault) → NameBreaks (d
 bare_err bytes from (wire.Short at) (labels, start, far, cut) =
     inr (labels, from + at, stand_from bytes from labels at (led_reach (drop from bytes) labels start at far), by_cut cut)
   where
-    by_cut : IsCut (drop from bytes) at → (LabelIsCut bytes (from + at) × ◌≡◌ {A = Result (List (List ℕ) × ℕ) RdataFault} (Err (cut_fault bytes (from + at))) (Err (Short (from + at)))) ⊎ (LabelIsBad bytes labels (from + at) × ◌≡◌ {A = Result (List (List ℕ) × ℕ) RdataFault} (Err (cut_fault bytes (from + at))) (Err (BadName (from + at))))
+    by_cut : IsCut (drop from bytes) at
+        → (LabelIsCut bytes (from + at) × ◌≡◌ {A = Result (List (List ℕ) × ℕ) RdataFault} (Err (cut_fault bytes (from + at))) (Err (Short (from + at))))
+        ⊎ (LabelIsBad bytes labels (from + at) × ◌≡◌ {A = Result (List (List ℕ) × ℕ) RdataFault} (Err (cut_fault bytes (from + at))) (Err (BadName (from + at))))
     by_cut (inl none) =
         let size = length-drop from bytes in
         let end : length bytes ≤ from + at = omega arith in
@@ -184,14 +192,18 @@ breaks_inside m (wire.ForwardPointer at) (labels, start, far, why) = reach_insid
 breaks_inside m (wire.NameTooLong at) (labels, start, far, why) = reach_inside m labels start at far
 
 -- the same of bytes that are those from a place on
-pub name_of_rest : (bytes : List ℕ) (from : ℕ) (rest : List ℕ) (labels : List (List ℕ)) (next : ℕ) → rest ≡ drop from bytes → NameAt rest 0 labels next → BareName bytes from (Ok (labels, from + next))
+pub name_of_rest : (bytes : List ℕ) (from : ℕ) (rest : List ℕ) (labels : List (List ℕ)) (next : ℕ)
+    → rest ≡ drop from bytes → NameAt rest 0 labels next → BareName bytes from (Ok (labels, from + next))
 name_of_rest bytes from rest labels next is n = bare_ok bytes from labels next (subst (λ l. NameAt l 0 labels next) is n)
 
-pub fault_of_rest : (bytes : List ℕ) (from : ℕ) (rest : List ℕ) (fault : WireFault) (told : RdataFault) → rest ≡ drop from bytes → NameBreaks rest 0 fault → told ≡ bare_fault bytes from fault → BareName bytes from (Err told)
+pub fault_of_rest : (bytes : List ℕ) (from : ℕ) (rest : List ℕ) (fault : WireFault) (told : RdataFault)
+    → rest ≡ drop from bytes → NameBreaks rest 0 fault → told ≡ bare_fault bytes from fault
+    → BareName bytes from (Err told)
 fault_of_rest bytes from rest fault told is h e =
     subst (λ f. BareName bytes from (Err f)) (sym e) (bare_err bytes from fault (subst (λ l. NameBreaks l 0 fault) is h))
 
-pub place_of_rest : (bytes : List ℕ) (from : ℕ) (rest : List ℕ) (fault : WireFault) → from ≤ length bytes → rest ≡ drop from bytes → NameBreaks rest 0 fault → from + place_of fault ≤ length bytes
+pub place_of_rest : (bytes : List ℕ) (from : ℕ) (rest : List ℕ) (fault : WireFault) → from ≤ length bytes
+    → rest ≡ drop from bytes → NameBreaks rest 0 fault → from + place_of fault ≤ length bytes
 place_of_rest bytes from rest fault low is h =
     let inside = breaks_inside (drop from bytes) fault (subst (λ l. NameBreaks l 0 fault) is h) in
     omega (arith, length-drop from bytes)
@@ -210,7 +222,8 @@ reached m labels at (is, stand, place) = record {
   short = is.short;
 }
 
-stand_rest : (bytes : List ℕ) (from : ℕ) (labels : List (List ℕ)) (place : ℕ) → LabelsStand bytes from labels place → LabelsStand (drop from bytes) 0 labels (place - from)
+stand_rest : (bytes : List ℕ) (from : ℕ) (labels : List (List ℕ)) (place : ℕ) → LabelsStand bytes from labels place
+    → LabelsStand (drop from bytes) 0 labels (place - from)
 stand_rest bytes from labels place (is, stand, e) = (is, there bytes from (flat_map label_wire labels) stand, omega arith)
 
 -- why there is no name
@@ -218,7 +231,8 @@ abbrev Why : List ℕ → List (List ℕ) → Result (List (List ℕ) × ℕ) Rd
 Why bytes labels r place =
     (LabelIsCut bytes place × (r ≡ Err (Short place))) ⊎ (LabelIsBad bytes labels place × (r ≡ Err (BadName place)))
 
-read_fault : (bytes : List ℕ) (from : ℕ) (labels : List (List ℕ)) (at : ℕ) (r : Result (List (List ℕ) × ℕ) RdataFault) → Reaches (drop from bytes) 0 labels 0 at → Why bytes labels r (from + at) → IsRead bytes from r
+read_fault : (bytes : List ℕ) (from : ℕ) (labels : List (List ℕ)) (at : ℕ) (r : Result (List (List ℕ) × ℕ) RdataFault)
+    → Reaches (drop from bytes) 0 labels 0 at → Why bytes labels r (from + at) → IsRead bytes from r
 read_fault bytes from labels at r far (inl (inl end, e)) =
     let size = length-drop from bytes in
     inr (wire.Short at, (labels, 0, far, inl (omega arith)), e ∙ ap Err (sym (cut_short bytes (from + at) 0 (get_or_past bytes (from + at) 0 end) (omega arith))))
@@ -282,7 +296,8 @@ each_drop (x ∷ xs) (suc n) all = each_drop xs n all.1
 pub IsTotal-bare_name : (bytes : List ℕ) (from : ℕ) → AllByRecursion IsByte bytes → IsTotal (BareName bytes from)
 IsTotal-bare_name bytes from all = by_found (name_or_fault (drop from bytes) 0 (each_drop bytes from all))
   where
-    by_found : ((labels : List (List ℕ)) × (next : ℕ) × NameAt (drop from bytes) 0 labels next) ⊎ ((fault : WireFault) × NameBreaks (drop from bytes) 0 fault) → IsTotal (BareName bytes from)
+    by_found : ((labels : List (List ℕ)) × (next : ℕ) × NameAt (drop from bytes) 0 labels next)
+        ⊎ ((fault : WireFault) × NameBreaks (drop from bytes) 0 fault) → IsTotal (BareName bytes from)
     by_found (inl (labels, next, name)) = record { result = Ok (labels, from + next); comes = bare_ok bytes from labels next name }
     by_found (inr (fault, breaks)) = record { result = Err (bare_fault bytes from fault); comes = bare_err bytes from fault breaks }
 

@@ -17,7 +17,8 @@ IsSingle-front cut message to from =
     IsSingle-then _ _ (IsSingle-text cut message to flags.1) (λ services.
     IsSingle-then _ _ (IsSingle-text cut message to services.1) (λ regexp. IsSingle-is _)))))
 
-IsTotal-front : {F : Type 0} (cut : ℕ → F) (message : List ℕ) (to from : ℕ) → AllByRecursion IsByte message → to ≤ length message → IsTotal (FrontBy cut message to from)
+IsTotal-front : {F : Type 0} (cut : ℕ → F) (message : List ℕ) (to from : ℕ) → AllByRecursion IsByte message
+    → to ≤ length message → IsTotal (FrontBy cut message to from)
 IsTotal-front cut message to from all fits =
     IsTotal-then _ _ (IsTotal-u16 cut message to from all fits) (λ order o.
     IsTotal-then _ _ (IsTotal-u16 cut message to order.1 all fits) (λ preference p.
@@ -25,12 +26,16 @@ IsTotal-front cut message to from all fits =
     IsTotal-then _ _ (IsTotal-text cut message to flags.1 all fits) (λ services s.
     IsTotal-then _ _ (IsTotal-text cut message to services.1 all fits) (λ regexp r. IsTotal-is _)))))
 
-pub IsSingle-rule : {F : Type 0} (cut left : ℕ → F) (NameBy : ℕ → Result (List (List ℕ) × ℕ) F → Type 0) (message : List ℕ) (from to : ℕ) → ((at : ℕ) → IsSingle (NameBy at)) → IsSingle (RuleBy cut left NameBy message from to)
+pub IsSingle-rule : {F : Type 0} (cut left : ℕ → F) (NameBy : ℕ → Result (List (List ℕ) × ℕ) F → Type 0) (message : List ℕ) (from to : ℕ)
+    → ((at : ℕ) → IsSingle (NameBy at)) → IsSingle (RuleBy cut left NameBy message from to)
 IsSingle-rule cut left NameBy message from to one =
     IsSingle-then _ _ (IsSingle-front cut message to from) (λ front.
     IsSingle-then _ _ (one front.1) (λ name. IsSingle-ends left to _ name.1))
 
-pub IsTotal-rule : {F : Type 0} (cut left : ℕ → F) (NameBy : ℕ → Result (List (List ℕ) × ℕ) F → Type 0) (message : List ℕ) (from to : ℕ) → AllByRecursion IsByte message → to ≤ length message → ((at : ℕ) → IsTotal (NameBy at)) → ((at : ℕ) (read : List (List ℕ) × ℕ) → NameBy at (Ok read) → read.1 ≤ to) → IsTotal (RuleBy cut left NameBy message from to)
+pub IsTotal-rule : {F : Type 0} (cut left : ℕ → F) (NameBy : ℕ → Result (List (List ℕ) × ℕ) F → Type 0) (message : List ℕ) (from to : ℕ)
+    → AllByRecursion IsByte message → to ≤ length message → ((at : ℕ) → IsTotal (NameBy at))
+    → ((at : ℕ) (read : List (List ℕ) × ℕ) → NameBy at (Ok read) → read.1 ≤ to)
+    → IsTotal (RuleBy cut left NameBy message from to)
 IsTotal-rule cut left NameBy message from to all fits some within =
     IsTotal-then _ _ (IsTotal-front cut message to from all fits) (λ front f.
     IsTotal-then _ _ (some front.1) (λ name n. IsTotal-ends left to _ name.1 (within front.1 name n)))

@@ -33,7 +33,11 @@ is_err (Ok x) fault is = absurd is
 is_err (Err f) fault is = ap Err is
 
 -- the five fields before the name, and the root for the name
-pub front_ok : {F : Type 0} (cut : ℕ → F) (message : List ℕ) (to from order p preference q : ℕ) (flags : List ℕ) (r : ℕ) (services : List ℕ) (s : ℕ) (regexp : List ℕ) (t : ℕ) (root : List (List ℕ)) → U16By cut message to from (Ok (order, p)) → U16By cut message to p (Ok (preference, q)) → TextBy cut message to q (Ok (flags, r)) → TextBy cut message to r (Ok (services, s)) → TextBy cut message to s (Ok (regexp, t)) → root ≡ [] → FrontBy cut message to from (Ok (record { order = order; preference = preference; flags = flags; services = services; regexp = regexp; replacement = root }, t))
+pub front_ok : {F : Type 0} (cut : ℕ → F) (message : List ℕ) (to from order p preference q : ℕ) (flags : List ℕ) (r : ℕ) (services : List ℕ) (s : ℕ) (regexp : List ℕ) (t : ℕ) (root : List (List ℕ))
+    → U16By cut message to from (Ok (order, p)) → U16By cut message to p (Ok (preference, q))
+    → TextBy cut message to q (Ok (flags, r)) → TextBy cut message to r (Ok (services, s))
+    → TextBy cut message to s (Ok (regexp, t)) → root ≡ []
+    → FrontBy cut message to from (Ok (record { order = order; preference = preference; flags = flags; services = services; regexp = regexp; replacement = root }, t))
 front_ok {F} cut message to from order p preference q flags r services s regexp t root a b c d e is =
     goes (order, p) a (goes (preference, q) b (goes (flags, r) c (goes (services, s) d (goes (regexp, t) e (ap made is)))))
   where
@@ -46,7 +50,10 @@ abbrev pub turned : {A F G : Type 0} → (F → G) → Result A F → Result A G
 turned turn (Ok value) = Ok value
 turned turn (Err fault) = Err (turn fault)
 
-Then-turned : {A B F G : Type 0} (turn : F → G) (One : Result A F → Type 0) (One' : Result A G → Type 0) (Next : A → Result B F → Type 0) (Next' : A → Result B G → Type 0) → ((r : Result A F) → One r → One' (turned turn r)) → ((value : A) (r : Result B F) → Next value r → Next' value (turned turn r)) → (r : Result B F) → Then One Next r → Then One' Next' (turned turn r)
+Then-turned : {A B F G : Type 0} (turn : F → G) (One : Result A F → Type 0) (One' : Result A G → Type 0) (Next : A → Result B F → Type 0) (Next' : A → Result B G → Type 0)
+    → ((r : Result A F) → One r → One' (turned turn r))
+    → ((value : A) (r : Result B F) → Next value r → Next' value (turned turn r)) → (r : Result B F) → Then One Next r
+    → Then One' Next' (turned turn r)
 Then-turned turn One One' Next Next' one next r (goes value h k) = goes value (one (Ok value) h) (next value r k)
 Then-turned turn One One' Next Next' one next r (stops fault h is) = stops (turn fault) (one (Err fault) h) (ap (turned turn) is)
 
@@ -54,11 +61,13 @@ number-turned : (message : List ℕ) (to at : ℕ) (r : Result (ℕ × ℕ) InFa
 number-turned message to at r (inl (value, small, there, is)) = inl (value, small, there, ap (turned rdata_fault) is)
 number-turned message to at r (inr (short, is)) = inr (short, ap (turned rdata_fault) is)
 
-text-turned : (message : List ℕ) (to at : ℕ) (r : Result (List ℕ × ℕ) InFault) → TextBy Shape message to at r → TextBy Short message to at (turned rdata_fault r)
+text-turned : (message : List ℕ) (to at : ℕ) (r : Result (List ℕ × ℕ) InFault) → TextBy Shape message to at r
+    → TextBy Short message to at (turned rdata_fault r)
 text-turned message to at r (inl (text, short, there, is)) = inl (text, short, there, ap (turned rdata_fault) is)
 text-turned message to at r (inr (cut, is)) = inr (cut, ap (turned rdata_fault) is)
 
-pub front-turned : (message : List ℕ) (to from : ℕ) (r : Result (Naptr × ℕ) InFault) → FrontIn message to from r → FrontBy Short message to from (turned rdata_fault r)
+pub front-turned : (message : List ℕ) (to from : ℕ) (r : Result (Naptr × ℕ) InFault) → FrontIn message to from r
+    → FrontBy Short message to from (turned rdata_fault r)
 front-turned message to from r h =
     Then-turned rdata_fault _ _ _ _ (number-turned message to from) (λ order.
     Then-turned rdata_fault _ _ _ _ (number-turned message to order.1) (λ preference.
@@ -67,20 +76,24 @@ front-turned message to from r h =
     Then-turned rdata_fault _ _ _ _ (text-turned message to services.1) (λ regexp r' is. ap (turned rdata_fault) is))))) r h
 
 -- a field that is read is the next part of the bytes
-number_part : {F : Type 0} (cut : ℕ → F) (bytes : List ℕ) (to at : ℕ) (read : ℕ × ℕ) → U16By cut bytes to at (Ok read) → (read.0 < 2 ^ 16) × (drop at bytes ≡ to_be_bytes w16 read.0 ++ drop read.1 bytes)
+number_part : {F : Type 0} (cut : ℕ → F) (bytes : List ℕ) (to at : ℕ) (read : ℕ × ℕ) → U16By cut bytes to at (Ok read)
+    → (read.0 < 2 ^ 16) × (drop at bytes ≡ to_be_bytes w16 read.0 ++ drop read.1 bytes)
 number_part cut bytes to at read (inl (value, small, there, is)) =
     let both : ◌≡◌ {A = ℕ × ℕ} read (value, at + 2) = cc in
     subst (λ (x : ℕ × ℕ). (x.0 < 2 ^ 16) × (drop at bytes ≡ to_be_bytes w16 x.0 ++ drop x.1 bytes)) (sym both) (small, drop_from bytes at (to_be_bytes w16 value) (drop (at + 2) bytes) there.0 refl)
 number_part cut bytes to at read (inr (short, is)) = absurd (cc)
 
-text_part : {F : Type 0} (cut : ℕ → F) (bytes : List ℕ) (to at : ℕ) (read : List ℕ × ℕ) → TextBy cut bytes to at (Ok read) → (length read.0 ≤ 255) × (drop at bytes ≡ string_wire read.0 ++ drop read.1 bytes)
+text_part : {F : Type 0} (cut : ℕ → F) (bytes : List ℕ) (to at : ℕ) (read : List ℕ × ℕ)
+    → TextBy cut bytes to at (Ok read)
+    → (length read.0 ≤ 255) × (drop at bytes ≡ string_wire read.0 ++ drop read.1 bytes)
 text_part cut bytes to at read (inl (text, short, there, is)) =
     let both : ◌≡◌ {A = List ℕ × ℕ} read (text, at + (length text + 1)) = cc in
     let place : at + length (string_wire text) ≡ at + (length text + 1) = omega arith in
     subst (λ (x : List ℕ × ℕ). (length x.0 ≤ 255) × (drop at bytes ≡ string_wire x.0 ++ drop x.1 bytes)) (sym both) (short, drop_from bytes at (string_wire text) (drop (at + (length text + 1)) bytes) there.0 (ap (λ n. drop n bytes) place))
 text_part cut bytes to at read (inr (short, is)) = absurd (cc)
 
-name_part : (bytes : List ℕ) (at : ℕ) (read : List (List ℕ) × ℕ) → BareName bytes at (Ok read) → IsName read.0 × (drop at bytes ≡ wire_of read.0 ++ drop read.1 bytes)
+name_part : (bytes : List ℕ) (at : ℕ) (read : List (List ℕ) × ℕ) → BareName bytes at (Ok read)
+    → IsName read.0 × (drop at bytes ≡ wire_of read.0 ++ drop read.1 bytes)
 name_part bytes at read (inl (labels, name, there, is)) =
     let both : ◌≡◌ {A = List (List ℕ) × ℕ} read (labels, at + length (wire_of labels)) = cc in
     subst (λ (x : List (List ℕ) × ℕ). IsName x.0 × (drop at bytes ≡ wire_of x.0 ++ drop x.1 bytes)) (sym both) (name, drop_from bytes at (wire_of labels) (drop (at + length (wire_of labels)) bytes) there refl)
@@ -90,7 +103,8 @@ name_part bytes at read (inr (labels, place, stood, inr (bad, is))) = absurd (cc
 -- the bytes of the fields before the name, and what is after them
 abbrev front_bytes : Naptr → List ℕ → List ℕ
 front_bytes rule rest =
-    to_be_bytes w16 rule.order ++ (to_be_bytes w16 rule.preference ++ (string_wire rule.flags ++ (string_wire rule.services ++ (string_wire rule.regexp ++ rest))))
+    to_be_bytes w16 rule.order
+    ++ (to_be_bytes w16 rule.preference ++ (string_wire rule.flags ++ (string_wire rule.services ++ (string_wire rule.regexp ++ rest))))
 
 record IsFront (bytes : List ℕ) (from : ℕ) (rule : Naptr) (next : ℕ) : Type 0 where
   pub order : rule.order < 2 ^ 16
@@ -100,7 +114,8 @@ record IsFront (bytes : List ℕ) (from : ℕ) (rule : Naptr) (next : ℕ) : Typ
   pub regexp : length rule.regexp ≤ 255
   pub parts : drop from bytes ≡ front_bytes rule (drop next bytes)
 
-front_parts : {F : Type 0} (cut : ℕ → F) (bytes : List ℕ) (to from : ℕ) (read : Naptr × ℕ) → FrontBy cut bytes to from (Ok read) → IsFront bytes from read.0 read.1
+front_parts : {F : Type 0} (cut : ℕ → F) (bytes : List ℕ) (to from : ℕ) (read : Naptr × ℕ)
+    → FrontBy cut bytes to from (Ok read) → IsFront bytes from read.0 read.1
 front_parts cut bytes to from read (goes order o (goes preference p (goes flags f (goes services s (goes regexp r is))))) =
     let both : ◌≡◌ {A = Naptr × ℕ} read (record { order = order.0; preference = preference.0; flags = flags.0; services = services.0; regexp = regexp.0; replacement = [] }, regexp.1) = cc in
     let one = number_part cut bytes to from order o in
@@ -114,7 +129,8 @@ front_parts cut bytes to from read (goes order o (goes preference p (goes flags 
       flags = three.0;
       services = four.0;
       regexp = five.0;
-      parts = one.1 ∙ ap (λ l. to_be_bytes w16 order.0 ++ l) (two.1 ∙ ap (λ l. to_be_bytes w16 preference.0 ++ l) (three.1 ∙ ap (λ l. string_wire flags.0 ++ l) (four.1 ∙ ap (λ l. string_wire services.0 ++ l) five.1)));
+      parts = one.1
+      ∙ ap (λ l. to_be_bytes w16 order.0 ++ l) (two.1 ∙ ap (λ l. to_be_bytes w16 preference.0 ++ l) (three.1 ∙ ap (λ l. string_wire flags.0 ++ l) (four.1 ∙ ap (λ l. string_wire services.0 ++ l) five.1)));
     })
 front_parts cut bytes to from read (goes order o (goes preference p (goes flags f (goes services s (stops fault h is))))) = absurd (cc)
 front_parts cut bytes to from read (goes order o (goes preference p (goes flags f (stops fault h is)))) = absurd (cc)
@@ -122,7 +138,9 @@ front_parts cut bytes to from read (goes order o (goes preference p (stops fault
 front_parts cut bytes to from read (goes order o (stops fault h is)) = absurd (cc)
 front_parts cut bytes to from read (stops fault h is) = absurd (cc)
 
-whole_rule : (bytes : List ℕ) (front : Naptr) (at : ℕ) (name : List (List ℕ) × ℕ) (rule : Naptr) → IsFront bytes 0 front at → IsName name.0 × (drop at bytes ≡ wire_of name.0 ++ drop name.1 bytes) → name.1 ≡ length bytes → rule ≡ record front { replacement = name.0 } → IsRule rule × (bytes ≡ rdata rule)
+whole_rule : (bytes : List ℕ) (front : Naptr) (at : ℕ) (name : List (List ℕ) × ℕ) (rule : Naptr)
+    → IsFront bytes 0 front at → IsName name.0 × (drop at bytes ≡ wire_of name.0 ++ drop name.1 bytes)
+    → name.1 ≡ length bytes → rule ≡ record front { replacement = name.0 } → IsRule rule × (bytes ≡ rdata rule)
 whole_rule bytes front at name rule f (named, last) end is =
     let wire = last ∙ ap (λ n. wire_of name.0 ++ drop n bytes) end ∙ ap (λ l. wire_of name.0 ++ l) (drop-length bytes) ∙ append-nil (wire_of name.0) in
     subst (λ (r : Naptr). IsRule r × (bytes ≡ rdata r)) (sym is) (
@@ -146,12 +164,16 @@ read_is_rdata bytes rule (goes front f (stops fault n is)) = absurd (cc)
 read_is_rdata bytes rule (stops fault f is) = absurd (cc)
 
 -- the next field of what is left
-next_number : {F : Type 0} (cut : ℕ → F) (bytes : List ℕ) (to at value : ℕ) (rest : List ℕ) → value < 2 ^ 16 → Left bytes to at (to_be_bytes w16 value ++ rest) → U16By cut bytes to at (Ok (value, at + 2)) × Left bytes to (at + 2) rest
+next_number : {F : Type 0} (cut : ℕ → F) (bytes : List ℕ) (to at value : ℕ) (rest : List ℕ) → value < 2 ^ 16
+    → Left bytes to at (to_be_bytes w16 value ++ rest)
+    → U16By cut bytes to at (Ok (value, at + 2)) × Left bytes to (at + 2) rest
 next_number cut bytes to at value rest small l =
     let part = left_part bytes to at (to_be_bytes w16 value) rest (omega (arith, length-append (to_be_bytes w16 value) rest)) l in
     (inl (value, small, part.0, refl), part.1)
 
-next_text : {F : Type 0} (cut : ℕ → F) (bytes : List ℕ) (to at : ℕ) (text rest : List ℕ) → length text ≤ 255 → Left bytes to at (string_wire text ++ rest) → TextBy cut bytes to at (Ok (text, at + (length text + 1))) × Left bytes to (at + (length text + 1)) rest
+next_text : {F : Type 0} (cut : ℕ → F) (bytes : List ℕ) (to at : ℕ) (text rest : List ℕ) → length text ≤ 255
+    → Left bytes to at (string_wire text ++ rest)
+    → TextBy cut bytes to at (Ok (text, at + (length text + 1))) × Left bytes to (at + (length text + 1)) rest
 next_text cut bytes to at text rest short l =
     let part = left_part bytes to at (string_wire text) rest (omega arith) l in
     let place : at + length (string_wire text) ≡ at + (length text + 1) = omega arith in
@@ -163,7 +185,8 @@ record FrontStands {F : Type 0} (cut : ℕ → F) (bytes : List ℕ) (to from : 
   pub front : FrontBy cut bytes to from (Ok (record rule { replacement = [] }, name))
   pub left : Left bytes to name (wire_of rule.replacement)
 
-front_stands : {F : Type 0} (cut : ℕ → F) (bytes : List ℕ) (to from : ℕ) (rule : Naptr) → IsRule rule → Left bytes to from (rdata rule) → FrontStands cut bytes to from rule
+front_stands : {F : Type 0} (cut : ℕ → F) (bytes : List ℕ) (to from : ℕ) (rule : Naptr) → IsRule rule
+    → Left bytes to from (rdata rule) → FrontStands cut bytes to from rule
 front_stands cut bytes to from rule h l =
     let order = next_number cut bytes to from rule.order (from_preference rule) h.order (subst (Left bytes to from) (rdata-parts rule) l) in
     let preference = next_number cut bytes to (from + 2) rule.preference (from_flags rule) h.preference order.1 in
@@ -183,7 +206,8 @@ rdata_is_read bytes rule h is =
     goes (record rule { replacement = [] }, f.name) f.front (goes (rule.replacement, f.name + length (wire_of rule.replacement)) (inl (rule.replacement, h.replacement, f.left.stand, refl)) (inl (f.left.size, refl)))
 
 -- and in a message
-pub rdata_stands : (message : List ℕ) (from : ℕ) (rule : Naptr) → IsRule rule → StandsAt message from (rdata rule) → RuleIn message from (from + length (rdata rule)) (Ok rule)
+pub rdata_stands : (message : List ℕ) (from : ℕ) (rule : Naptr) → IsRule rule → StandsAt message from (rdata rule)
+    → RuleIn message from (from + length (rdata rule)) (Ok rule)
 rdata_stands message from rule h stand =
     let f = front_stands Shape message (from + length (rdata rule)) from rule h (record { stand = stand; size = refl }) in
     let end = f.left.size in
@@ -210,9 +234,11 @@ pub rule_has_none : (rule : Naptr) (fault : RdataFault) → IsRule rule → Bare
 rule_has_none rule fault is h =
     let same = (IsSingle-bare_rule (rdata rule)).same (Ok rule) (Err fault) (rdata_is_read (rdata rule) rule is refl) h in absurd (cc)
 
-pub rule_or_fault : (bytes : List ℕ) → AllByRecursion IsByte bytes → ((rule : Naptr) × IsRule rule × (bytes ≡ rdata rule)) ⊎ ((fault : RdataFault) × BareRule bytes (Err fault))
+pub rule_or_fault : (bytes : List ℕ) → AllByRecursion IsByte bytes
+    → ((rule : Naptr) × IsRule rule × (bytes ≡ rdata rule)) ⊎ ((fault : RdataFault) × BareRule bytes (Err fault))
 rule_or_fault bytes all = by_result (IsTotal-bare_rule bytes all).result (IsTotal-bare_rule bytes all).comes
   where
-    by_result : (r : Result Naptr RdataFault) → BareRule bytes r → ((rule : Naptr) × IsRule rule × (bytes ≡ rdata rule)) ⊎ ((fault : RdataFault) × BareRule bytes (Err fault))
+    by_result : (r : Result Naptr RdataFault) → BareRule bytes r → ((rule : Naptr) × IsRule rule × (bytes ≡ rdata rule))
+        ⊎ ((fault : RdataFault) × BareRule bytes (Err fault))
     by_result (Ok rule) h = let is = read_is_rdata bytes rule h in inl (rule, is.0, is.1)
     by_result (Err fault) h = inr (fault, h)

@@ -36,12 +36,14 @@ bytes_cmp-append (x ∷ xs) (y ∷ ys) us vs same =
     ap (ordering_then (nat_cmp x y)) (bytes_cmp-append xs ys us vs (omega (arith, same))) ∙ sym (then_assoc (nat_cmp x y) (bytes_cmp xs ys) (bytes_cmp us vs))
 
 -- character-strings decide by their lengths first, so nothing after them is seen before
-string_cmp-by : (o : Ordering) (xs ys us vs : List ℕ) → o ≡ nat_cmp (length xs) (length ys) → ordering_then o (bytes_cmp (xs ++ us) (ys ++ vs)) ≡ ordering_then (ordering_then o (bytes_cmp xs ys)) (bytes_cmp us vs)
+string_cmp-by : (o : Ordering) (xs ys us vs : List ℕ) → o ≡ nat_cmp (length xs) (length ys)
+    → ordering_then o (bytes_cmp (xs ++ us) (ys ++ vs)) ≡ ordering_then (ordering_then o (bytes_cmp xs ys)) (bytes_cmp us vs)
 string_cmp-by Less xs ys us vs is = refl
 string_cmp-by Equal xs ys us vs is = bytes_cmp-append xs ys us vs (nat_cmp-equal (length xs) (length ys) is)
 string_cmp-by Greater xs ys us vs is = refl
 
-string_cmp-append : (xs ys us vs : List ℕ) → bytes_cmp (string_wire xs ++ us) (string_wire ys ++ vs) ≡ ordering_then (bytes_cmp (string_wire xs) (string_wire ys)) (bytes_cmp us vs)
+string_cmp-append : (xs ys us vs : List ℕ)
+    → bytes_cmp (string_wire xs ++ us) (string_wire ys ++ vs) ≡ ordering_then (bytes_cmp (string_wire xs) (string_wire ys)) (bytes_cmp us vs)
 string_cmp-append xs ys us vs = string_cmp-by (nat_cmp (length xs) (length ys)) xs ys us vs refl
 
 -- equal numbers, and then the rest
@@ -68,7 +70,8 @@ pub rdata-parts : (rule : Naptr) → rdata rule ≡ to_be_bytes w16 rule.order +
 rdata-parts rule = simp append_assoc
 
 -- what the fields answer one after another
-fields_cmp : (one other : Naptr) → bytes_cmp (from_flags one) (from_flags other) ≡ ordering_then (ordering_then (ordering_then (bytes_cmp (string_wire one.flags) (string_wire other.flags)) (bytes_cmp (string_wire one.services) (string_wire other.services))) (bytes_cmp (string_wire one.regexp) (string_wire other.regexp))) (bytes_cmp (wire_of one.replacement) (wire_of other.replacement))
+fields_cmp : (one other : Naptr)
+    → bytes_cmp (from_flags one) (from_flags other) ≡ ordering_then (ordering_then (ordering_then (bytes_cmp (string_wire one.flags) (string_wire other.flags)) (bytes_cmp (string_wire one.services) (string_wire other.services))) (bytes_cmp (string_wire one.regexp) (string_wire other.regexp))) (bytes_cmp (wire_of one.replacement) (wire_of other.replacement))
 fields_cmp one other =
     let f = bytes_cmp (string_wire one.flags) (string_wire other.flags) in
     let s = bytes_cmp (string_wire one.services) (string_wire other.services) in
@@ -78,7 +81,10 @@ fields_cmp one other =
     ∙ ap (ordering_then f) (string_cmp-append one.services other.services (from_regexp one) (from_regexp other) ∙ ap (ordering_then s) (string_cmp-append one.regexp other.regexp (wire_of one.replacement) (wire_of other.replacement)))
     ∙ sym (then_assoc (ordering_then f s) r w ∙ then_assoc f s (ordering_then r w))
 
-rank_parts : (one other : Naptr) (o p : Ordering) → o ≡ nat_cmp one.order other.order → p ≡ nat_cmp one.preference other.preference → (f s r w : Ordering) → bytes_cmp (from_flags one) (from_flags other) ≡ ordering_then (ordering_then (ordering_then f s) r) w → ordering_then (ordering_then (ordering_then (ordering_then (ordering_then o p) f) s) r) w ≡ ordering_then o (ordering_then p (bytes_cmp (rdata one) (rdata other)))
+rank_parts : (one other : Naptr) (o p : Ordering) → o ≡ nat_cmp one.order other.order
+    → p ≡ nat_cmp one.preference other.preference → (f s r w : Ordering)
+    → bytes_cmp (from_flags one) (from_flags other) ≡ ordering_then (ordering_then (ordering_then f s) r) w
+    → ordering_then (ordering_then (ordering_then (ordering_then (ordering_then o p) f) s) r) w ≡ ordering_then o (ordering_then p (bytes_cmp (rdata one) (rdata other)))
 rank_parts one other Less p order preference f s r w is = refl
 rank_parts one other Greater p order preference f s r w is = refl
 rank_parts one other Equal Less order preference f s r w is = refl
@@ -93,7 +99,13 @@ rank_parts one other Equal Equal order preference f s r w is =
     )
 
 -- the answers of the fields, one after another, are the order of rules
-pub rank_of-chain : (one other : Naptr) (o p op f opf s opfs r opfsr w all : Ordering) → o ≡ nat_cmp one.order other.order → p ≡ nat_cmp one.preference other.preference → op ≡ ordering_then o p → f ≡ bytes_cmp (string_wire one.flags) (string_wire other.flags) → opf ≡ ordering_then op f → s ≡ bytes_cmp (string_wire one.services) (string_wire other.services) → opfs ≡ ordering_then opf s → r ≡ bytes_cmp (string_wire one.regexp) (string_wire other.regexp) → opfsr ≡ ordering_then opfs r → w ≡ bytes_cmp (wire_of one.replacement) (wire_of other.replacement) → all ≡ ordering_then opfsr w → all ≡ rank_of one other
+pub rank_of-chain : (one other : Naptr) (o p op f opf s opfs r opfsr w all : Ordering)
+    → o ≡ nat_cmp one.order other.order → p ≡ nat_cmp one.preference other.preference → op ≡ ordering_then o p
+    → f ≡ bytes_cmp (string_wire one.flags) (string_wire other.flags) → opf ≡ ordering_then op f
+    → s ≡ bytes_cmp (string_wire one.services) (string_wire other.services) → opfs ≡ ordering_then opf s
+    → r ≡ bytes_cmp (string_wire one.regexp) (string_wire other.regexp) → opfsr ≡ ordering_then opfs r
+    → w ≡ bytes_cmp (wire_of one.replacement) (wire_of other.replacement) → all ≡ ordering_then opfsr w
+    → all ≡ rank_of one other
 rank_of-chain one other o p op f opf s opfs r opfsr w all o_is p_is op_is f_is opf_is s_is opfs_is r_is opfsr_is w_is all_is =
     let fields =
     fields_cmp one other
@@ -108,7 +120,8 @@ rank_of-chain one other o p op f opf s opfs r opfsr w all o_is p_is op_is f_is o
     ∙ ap (λ x. ordering_then (nat_cmp one.order other.order) (ordering_then x (bytes_cmp (rdata one) (rdata other)))) p_is
 
 pub rank_of-total : IsTotalOrder rank_of
-rank_of-total = then_total (on_total (λ (rule : Naptr). rule.order) nat_cmp_total) (then_total (on_total (λ (rule : Naptr). rule.preference) nat_cmp_total) (on_total rdata nat_list_cmp_total))
+rank_of-total =
+    then_total (on_total (λ (rule : Naptr). rule.order) nat_cmp_total) (then_total (on_total (λ (rule : Naptr). rule.preference) nat_cmp_total) (on_total rdata nat_list_cmp_total))
 
 number_parts : (n m : ℕ) (us vs : List ℕ) → n < 2 ^ 16 → m < 2 ^ 16 → to_be_bytes w16 n ++ us ≡ to_be_bytes w16 m ++ vs → (n ≡ m) × (us ≡ vs)
 number_parts n m us vs hn hm is =

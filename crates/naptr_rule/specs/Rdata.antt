@@ -9,7 +9,8 @@ use Rattle.naptr_rule.specs.declared.rule.Naptr.{Naptr}
 -- compression (RFC 3403, 4.1)
 abbrev pub rdata : Naptr → List ℕ
 rdata rule =
-    to_be_bytes w16 rule.order ++ to_be_bytes w16 rule.preference ++ string_wire rule.flags ++ string_wire rule.services ++ string_wire rule.regexp ++ wire_of rule.replacement
+    to_be_bytes w16 rule.order ++ to_be_bytes w16 rule.preference ++ string_wire rule.flags ++ string_wire rule.services
+    ++ string_wire rule.regexp ++ wire_of rule.replacement
 
 -- the fields of a rule: numbers of 16 bits, texts of at most 255 bytes, a name
 pub record IsRule (rule : Naptr) : Type 0 where

@@ -7,4 +7,5 @@ use Rattle.naptr_rule.specs.declared.rule.Naptr.{Naptr}
 -- the six fields, with one space between them
 abbrev pub rule_text : Naptr → List ℕ
 rule_text rule =
-    decimal rule.order ++ codes " " ++ decimal rule.preference ++ codes " " ++ quoted rule.flags ++ codes " " ++ quoted rule.services ++ codes " " ++ quoted rule.regexp ++ codes " " ++ text_of rule.replacement
+    decimal rule.order ++ codes " " ++ decimal rule.preference ++ codes " " ++ quoted rule.flags ++ codes " "
+    ++ quoted rule.services ++ codes " " ++ quoted rule.regexp ++ codes " " ++ text_of rule.replacement

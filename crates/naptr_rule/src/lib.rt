@@ -12,4 +12,5 @@ mod written;
 pub use laws::{rank_is_total, rdata_is_read, rdata_tells_rules, rule_in_is_one};
 pub use rdata_fault::RdataFault;
 pub use rdata_field::InFault;
+pub use read::rule_in;
 pub use rule::Naptr;

@@ -1,6 +1,5 @@
 //! Rules read from their RDATA.
 ghost use Rattle.std.specs.Prelude.{◌≡◌, ◌↔◌, ◌≤◌, length, Ok, Err, IfOk};
-ghost use Rattle.dns_name.specs.Targets.{AreTargets};
 ghost use Rattle.naptr_rule.specs.Fields.{FrontIn, RuleIn};
 ghost use Rattle.naptr_rule.specs.Bare.{BareRule};
 ghost use Rattle.rdata_field.specs.declared.in_fault.InFault.{InFault};
@@ -10,11 +9,10 @@ ghost use Rattle.naptr_rule.specs.declared.rule.Naptr.{Naptr};
 use crate::bare_name::bare_name;
 use crate::rdata_fault::RdataFault;
 use crate::rule::Naptr;
-use dns_name::Name;
+use dns_name::{MessageBytes, Name};
 use rdata_field::{InFault, ends_in, name_in, text_in, u16_in};
 
 impl Naptr {
-    ghost use Rattle.dns_name.specs.Targets.{AreTargets};
     ghost use Rattle.naptr_rule.specs.Rdata.{rdata, IsRule};
 
     /// The rule of the RDATA between two places of a message, where its name may have pointers (RFC 3403, 4.1; RFC 1035, 4.1.4).
@@ -28,26 +26,8 @@ impl Naptr {
         ensures rule { (rule : Naptr) → (result ≡ Ok rule) ↔ RuleIn message.now from to (Ok rule) }
         ensures fault { (fault : InFault) → (result ≡ Err fault) ↔ RuleIn message.now from to (Err fault) }
     {
-        rule_in(message, &[], from, to)
-    }
-
-    /// The same as `read_in`, where the targets of the message (`dns_name::targets_of`) are at hand.
-    ///
-    /// # Errors
-    /// As `read_in`.
-    pub fn read_in_by(
-        message: &[u8],
-        targets: &[u16],
-        from: usize,
-        to: usize,
-    ) -> Result<Naptr, InFault>
-        requires begin { from ≤ to }
-        requires end { to ≤ length message.now }
-        requires targets { AreTargets message.now targets.now }
-        ensures rule { (rule : Naptr) → (result ≡ Ok rule) ↔ RuleIn message.now from to (Ok rule) }
-        ensures fault { (fault : InFault) → (result ≡ Err fault) ↔ RuleIn message.now from to (Err fault) }
-    {
-        rule_in(message, targets, from, to)
+        let whole = MessageBytes::new(message);
+        rule_in(&whole, from, to)
     }
 
     /// The rule of these bytes, which are its whole RDATA. A pointer in its name is `BadName`.
@@ -58,19 +38,21 @@ impl Naptr {
         ensures rule { (rule : Naptr) → (result ≡ Ok rule) ↔ (IsRule rule × (bytes.now ≡ rdata rule)) }
         ensures fault { (fault : RdataFault) → (result ≡ Err fault) ↔ BareRule bytes.now (Err fault) }
     {
-        bare_rule(bytes)
+        read_inner(bytes)
     }
 }
 
-// The rule of the RDATA in a message, by one clause.
-fn rule_in(message: &[u8], targets: &[u16], from: usize, to: usize) -> Result<Naptr, InFault>
+/// The rule of the RDATA between two places of a message, as `Naptr::read_in` reads it.
+///
+/// # Errors
+/// As `Naptr::read_in`.
+pub fn rule_in(message: &MessageBytes<'_>, from: usize, to: usize) -> Result<Naptr, InFault>
     requires begin { from ≤ to }
     requires end { to ≤ length message.now }
-    requires targets { AreTargets message.now targets.now }
     ensures { RuleIn message.now from to result }
 {
     let (front, at) = front_in(message, from, to)?;
-    let (replacement, at) = name_in(message, targets, at, to)?;
+    let (replacement, at) = name_in(message, at, to)?;
     ends_in(
         Naptr {
             replacement,
@@ -82,11 +64,12 @@ fn rule_in(message: &[u8], targets: &[u16], from: usize, to: usize) -> Result<Na
 }
 
 // The rule of RDATA by itself, by one clause.
-fn bare_rule(bytes: &[u8]) -> Result<Naptr, RdataFault>
+fn read_inner(bytes: &[u8]) -> Result<Naptr, RdataFault>
     ensures { BareRule bytes.now result }
 {
     let to = bytes.len();
-    let (front, at) = front_in(bytes, 0, to)?;
+    let whole = MessageBytes::new(bytes);
+    let (front, at) = front_in(&whole, 0, to)?;
     let (replacement, at) = bare_name(bytes, at)?;
     if at < to {
         return Err(RdataFault::Trailing { at });
@@ -98,7 +81,7 @@ fn bare_rule(bytes: &[u8]) -> Result<Naptr, RdataFault>
 }
 
 // The fields before the name, in a rule whose name is the root, and the place after them.
-fn front_in(message: &[u8], from: usize, to: usize) -> Result<(Naptr, usize), InFault>
+fn front_in(message: &MessageBytes<'_>, from: usize, to: usize) -> Result<(Naptr, usize), InFault>
     requires begin { from ≤ to }
     requires end { to ≤ length message.now }
     ensures front { FrontIn message.now to from result }

@@ -4,7 +4,6 @@ ghost use Rattle.rdata_field.specs.Strings.{quoted};
 
 use crate::rule::Naptr;
 use enum_base::{Buffer, Bytes, MemoryFault, Text255};
-use itoa::Buffer as Digits;
 use rdata_field::quoted;
 
 // Two numbers of at most five digits, three texts of at most 1,022 bytes, a name of at most 1,024, and five spaces.
@@ -36,8 +35,7 @@ fn push_number(text: &mut RuleText, number: u16)
     ensures value { text.new ≡ text.old ++ decimal number ++ codes " " }
     ensures size { length text.new ≤ length text.old + 6 }
 {
-    let mut digits = Digits::new();
-    text.push_slice(digits.format(number).as_bytes());
+    text.push_number(number);
     text.push(b' ');
 }
 

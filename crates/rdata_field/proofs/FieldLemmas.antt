@@ -19,7 +19,8 @@ use Rattle.rdata_field.specs.declared.in_fault.InFault.TheVariants.{Shape}
 use Rattle.rdata_field.proofs.PlaceLemmas.{by_size, byte_at, one_part}
 
 -- what comes to one thing is that thing exactly where the stage says so
-pub comes_iff : {A F : Type 0} (One : Result A F → Type 0) → IsSingle One → (result : Result A F) → One result → (wanted : Result A F) → (result ≡ wanted) ↔ One wanted
+pub comes_iff : {A F : Type 0} (One : Result A F → Type 0) → IsSingle One → (result : Result A F) → One result
+    → (wanted : Result A F) → (result ≡ wanted) ↔ One wanted
 comes_iff One single result comes wanted = (λ is. subst One is comes, λ other. single.same result wanted comes other)
 
 one_string : (message : List ℕ) (at : ℕ) (one two : List ℕ) → StandsAt message at (string_wire one) → StandsAt message at (string_wire two) → one ≡ two
@@ -44,15 +45,20 @@ IsSingle-text {F} cut message to at = record { same = same }
     same r s (inr (none, is)) (inr (none', is')) = is ∙ sym is'
 
 -- a length byte with enough bytes after it begins a character-string
-string-there : (message : List ℕ) (at size : ℕ) → at < length message → size ≡ get_or message at 0 → at + size < length message → StandsAt message at (string_wire (label_bytes message at size)) × (length (label_bytes message at size) ≡ size)
+string-there : (message : List ℕ) (at size : ℕ) → at < length message → size ≡ get_or message at 0
+    → at + size < length message
+    → StandsAt message at (string_wire (label_bytes message at size)) × (length (label_bytes message at size) ≡ size)
 string-there message at size inside is room =
     let whole : length (label_bytes message at size) ≡ size = omega (arith, length-take size (drop (at + 1) message), length-drop (at + 1) message) in
     let here = from_place message at inside in (
-      ap (take (suc (length (label_bytes message at size)))) here ∙ ap (λ n. get_or message at 0 ∷ take n (drop (at + 1) message)) whole ∙ ap (λ b. b ∷ label_bytes message at size) (sym is ∙ sym whole),
+      ap (take (suc (length (label_bytes message at size)))) here
+      ∙ ap (λ n. get_or message at 0 ∷ take n (drop (at + 1) message)) whole
+      ∙ ap (λ b. b ∷ label_bytes message at size) (sym is ∙ sym whole),
       whole,
     )
 
-pub IsTotal-text : {F : Type 0} (cut : ℕ → F) (message : List ℕ) (to at : ℕ) → AllByRecursion IsByte message → to ≤ length message → IsTotal (TextBy cut message to at)
+pub IsTotal-text : {F : Type 0} (cut : ℕ → F) (message : List ℕ) (to at : ℕ) → AllByRecursion IsByte message
+    → to ≤ length message → IsTotal (TextBy cut message to at)
 IsTotal-text {F} cut message to at all fits = by_place (by_size to at)
   where
     size : ℕ
@@ -103,7 +109,8 @@ IsSingle-address size message to at = record { same = same }
     same r s (inr (short, is)) (inr (short', is')) = is ∙ sym is'
 
 -- as many bytes as lie in a message stand there
-pub part_there : (message : List ℕ) (at size : ℕ) → at + size ≤ length message → (length (take size (drop at message)) ≡ size) × StandsAt message at (take size (drop at message))
+pub part_there : (message : List ℕ) (at size : ℕ) → at + size ≤ length message
+    → (length (take size (drop at message)) ≡ size) × StandsAt message at (take size (drop at message))
 part_there message at size inside =
     let whole : length (take size (drop at message)) ≡ size = omega (arith, length-take size (drop at message), length-drop at message) in
     (whole, ap (λ n. take n (drop at message)) whole)

@@ -38,7 +38,8 @@ two_stand message at inside =
 u16_small : (a b : ℕ) → a < 256 → b < 256 → from_be_bytes w16 (a ∷ b ∷ []) < 2 ^ 16
 u16_small a b h k = omega arith
 
-pub IsTotal-u16 : {F : Type 0} (cut : ℕ → F) (message : List ℕ) (to at : ℕ) → AllByRecursion IsByte message → to ≤ length message → IsTotal (U16By cut message to at)
+pub IsTotal-u16 : {F : Type 0} (cut : ℕ → F) (message : List ℕ) (to at : ℕ) → AllByRecursion IsByte message
+    → to ≤ length message → IsTotal (U16By cut message to at)
 IsTotal-u16 {F} cut message to at all fits = by_room (by_size (at + 2) to)
   where
     high : ℕ
@@ -80,7 +81,8 @@ four_bytes a b c d h k l m (suc (suc zero)) = l
 four_bytes a b c d h k l m (suc (suc (suc zero))) = m
 four_bytes a b c d h k l m (suc (suc (suc (suc i)))) = omega arith
 
-four_stand : (message : List ℕ) (at : ℕ) → at + 4 ≤ length message → StandsAt message at (get_or message at 0 ∷ get_or message (at + 1) 0 ∷ get_or message (at + 2) 0 ∷ get_or message (at + 3) 0 ∷ [])
+four_stand : (message : List ℕ) (at : ℕ) → at + 4 ≤ length message
+    → StandsAt message at (get_or message at 0 ∷ get_or message (at + 1) 0 ∷ get_or message (at + 2) 0 ∷ get_or message (at + 3) 0 ∷ [])
 four_stand message at inside =
     ap (take 4) (from_place message at (omega arith) ∙ ap (λ l. get_or message at 0 ∷ l) (next (at + 1) (at + 2) (omega arith) (omega arith) ∙ ap (λ l. get_or message (at + 1) 0 ∷ l) (next (at + 2) (at + 3) (omega arith) (omega arith) ∙ ap (λ l. get_or message (at + 2) 0 ∷ l) (from_place message (at + 3) (omega arith)))))
   where
@@ -91,7 +93,9 @@ u32_small : (a b c d : ℕ) → a < 256 → b < 256 → c < 256 → d < 256 → 
 u32_small a b c d h k l m = omega arith
 
 -- four bytes of a message are a number
-pub u32_there : (message : List ℕ) (at : ℕ) → AllByRecursion IsByte message → at + 4 ≤ length message → (value : ℕ) → value ≡ from_be_bytes w32 (get_or message at 0 ∷ get_or message (at + 1) 0 ∷ get_or message (at + 2) 0 ∷ get_or message (at + 3) 0 ∷ []) → (value < 2 ^ 32) × StandsAt message at (to_be_bytes w32 value)
+pub u32_there : (message : List ℕ) (at : ℕ) → AllByRecursion IsByte message → at + 4 ≤ length message → (value : ℕ)
+    → value ≡ from_be_bytes w32 (get_or message at 0 ∷ get_or message (at + 1) 0 ∷ get_or message (at + 2) 0 ∷ get_or message (at + 3) 0 ∷ [])
+    → (value < 2 ^ 32) × StandsAt message at (to_be_bytes w32 value)
 u32_there message at all inside value is =
     let a = get_or message at 0 in
     let b = get_or message (at + 1) 0 in
@@ -101,7 +105,8 @@ u32_there message at all inside value is =
     let small = u32_small a b c d (byte_at message at all) (byte_at message (at + 1) all) (byte_at message (at + 2) all) (byte_at message (at + 3) all) in
     (subst (λ v. v < 2 ^ 32) (sym is) small, four_stand message at inside ∙ sym bytes)
 
-pub IsTotal-u32 : {F : Type 0} (cut : ℕ → F) (message : List ℕ) (to at : ℕ) → AllByRecursion IsByte message → to ≤ length message → IsTotal (U32By cut message to at)
+pub IsTotal-u32 : {F : Type 0} (cut : ℕ → F) (message : List ℕ) (to at : ℕ) → AllByRecursion IsByte message
+    → to ≤ length message → IsTotal (U32By cut message to at)
 IsTotal-u32 {F} cut message to at all fits = by_room (by_size (at + 4) to)
   where
     by_room : (at + 4 ≤ to) ⊎ (to < at + 4) → IsTotal (U32By cut message to at)

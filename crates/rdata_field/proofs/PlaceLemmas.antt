@@ -52,7 +52,8 @@ stands_join bytes at one two h k =
     ∙ ap (λ l. one ++ take (length two) l) (drop-drop (length one) at bytes)
     ∙ ap (λ l. one ++ l) k
 
-pub stands_split : (bytes : List ℕ) (at : ℕ) (one two : List ℕ) → 0 < length (one ++ two) → StandsAt bytes at (one ++ two) → StandsAt bytes at one × StandsAt bytes (at + length one) two
+pub stands_split : (bytes : List ℕ) (at : ℕ) (one two : List ℕ) → 0 < length (one ++ two)
+    → StandsAt bytes at (one ++ two) → StandsAt bytes at one × StandsAt bytes (at + length one) two
 stands_split bytes at one two some h =
     let inside = stands_inside bytes at (one ++ two) some h in
     let whole = length-append one two in
@@ -71,7 +72,8 @@ pub left_all : (bytes : List ℕ) → Left bytes (length bytes) 0 bytes
 left_all bytes = record { stand = take-length bytes; size = omega arith }
 
 -- the next part stands there, and the others are left after it
-pub left_part : (bytes : List ℕ) (to at : ℕ) (part rest : List ℕ) → 0 < length (part ++ rest) → Left bytes to at (part ++ rest) → StandsWithin bytes at to part × Left bytes to (at + length part) rest
+pub left_part : (bytes : List ℕ) (to at : ℕ) (part rest : List ℕ) → 0 < length (part ++ rest)
+    → Left bytes to at (part ++ rest) → StandsWithin bytes at to part × Left bytes to (at + length part) rest
 left_part bytes to at part rest some l =
     let size = l.size in
     let whole = length-append part rest in
@@ -81,4 +83,5 @@ left_part bytes to at part rest some l =
 -- a part that stands there, and what is after it
 pub drop_from : (bytes : List ℕ) (at : ℕ) (part rest : List ℕ) → StandsAt bytes at part → drop (at + length part) bytes ≡ rest → drop at bytes ≡ part ++ rest
 drop_from bytes at part rest h k =
-    sym (take-append-drop (length part) (drop at bytes)) ∙ ap (λ l. l ++ drop (length part) (drop at bytes)) h ∙ ap (λ l. part ++ l) (drop-drop (length part) at bytes ∙ k)
+    sym (take-append-drop (length part) (drop at bytes)) ∙ ap (λ l. l ++ drop (length part) (drop at bytes)) h
+    ∙ ap (λ l. part ++ l) (drop-drop (length part) at bytes ∙ k)

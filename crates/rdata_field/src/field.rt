@@ -1,18 +1,17 @@
 //! The fields of RDATA in a message. Each is read at a place and lies before `to`, where the RDATA ends.
-ghost use Rattle.std.specs.Prelude.{◌<◌, ◌≤◌, length, IfOk};
-ghost use Rattle.dns_name.specs.Targets.{AreTargets};
-ghost use Rattle.rdata_field.specs.Fields.{U16In, U32In, AddressIn, TextIn, NameIn, EndsIn};
+ghost use Rattle.std.specs.Prelude.{◌<◌, ◌≤◌, length, IfOk, IfSome, MatchOption};
+ghost use Rattle.rdata_field.specs.Strings.{string_wire};
+ghost use Rattle.rdata_field.specs.Fields.{StandsWithin, TextIsCut, U16In, U32In, AddressIn, TextIn, NameIn, EndsIn};
 
 use crate::in_fault::InFault;
-use byteorder::{BigEndian, ByteOrder};
-use dns_name::Name;
+use dns_name::{MessageBytes, Name};
 use enum_base::Text255;
 
 /// The number of 16 bits at that place, the high byte first, and the place after it.
 ///
 /// # Errors
 /// `Shape` at its place where its two bytes do not lie before `to`.
-pub fn u16_in(message: &[u8], at: usize, to: usize) -> Result<(u16, usize), InFault>
+pub fn u16_in(message: &MessageBytes<'_>, at: usize, to: usize) -> Result<(u16, usize), InFault>
     requires begin { at ≤ to }
     requires end { to ≤ length message.now }
     ensures number { U16In message.now to at result }
@@ -21,14 +20,14 @@ pub fn u16_in(message: &[u8], at: usize, to: usize) -> Result<(u16, usize), InFa
     if to - at < 2 {
         return Err(InFault::Shape { at });
     }
-    Ok((BigEndian::read_u16(&message[at..]), at + 2))
+    Ok((message.u16_at(at), at + 2))
 }
 
 /// The number of 32 bits at that place, the high byte first, and the place after it.
 ///
 /// # Errors
 /// `Shape` at its place where its four bytes do not lie before `to`.
-pub fn u32_in(message: &[u8], at: usize, to: usize) -> Result<(u32, usize), InFault>
+pub fn u32_in(message: &MessageBytes<'_>, at: usize, to: usize) -> Result<(u32, usize), InFault>
     requires begin { at ≤ to }
     requires end { to ≤ length message.now }
     ensures number { U32In message.now to at result }
@@ -37,7 +36,7 @@ pub fn u32_in(message: &[u8], at: usize, to: usize) -> Result<(u32, usize), InFa
     if to - at < 4 {
         return Err(InFault::Shape { at });
     }
-    Ok((BigEndian::read_u32(&message[at..]), at + 4))
+    Ok((message.u32_at(at), at + 4))
 }
 
 /// The address of that many bytes at that place, and the place after it.
@@ -45,7 +44,7 @@ pub fn u32_in(message: &[u8], at: usize, to: usize) -> Result<(u32, usize), InFa
 /// # Errors
 /// `Shape` at its place where they do not lie before `to`.
 pub fn address_in<const N: usize>(
-    message: &[u8],
+    message: &MessageBytes<'_>,
     at: usize,
     to: usize,
 ) -> Result<([u8; N], usize), InFault>
@@ -58,7 +57,7 @@ pub fn address_in<const N: usize>(
         return Err(InFault::Shape { at });
     }
     let mut bytes = [0; N];
-    bytes.copy_from_slice(&message[at..at + N]);
+    bytes.copy_from_slice(&message.as_slice()[at..at + N]);
     Ok((bytes, at + N))
 }
 
@@ -66,45 +65,42 @@ pub fn address_in<const N: usize>(
 ///
 /// # Errors
 /// `Shape` at its place where its length byte, or one of the bytes that this counts, does not lie before `to`.
-pub fn text_in(message: &[u8], at: usize, to: usize) -> Result<(Text255, usize), InFault>
+pub fn text_in(
+    message: &MessageBytes<'_>,
+    at: usize,
+    to: usize,
+) -> Result<(Text255, usize), InFault>
     requires begin { at ≤ to }
     requires end { to ≤ length message.now }
     ensures text { TextIn message.now to at result }
     ensures within { IfOk result (λ read. (at < read.1) × (read.1 ≤ to)) }
 {
-    let room = to - at;
-    if room == 0 {
-        return Err(InFault::Shape { at });
+    match string_of(&message.as_slice()[at..to]) {
+        Some(text) => Ok((text, at + 1 + text.as_bytes().len())),
+        None => Err(InFault::Shape { at }),
     }
-    let size = usize::from(message[at]);
-    if room <= size {
-        return Err(InFault::Shape { at });
-    }
-    let end = at + 1 + size;
-    let Some(text) = Text255::from_bytes(&message[at + 1..end]) else {
-        return Err(InFault::Shape { at });
-    };
-    Ok((text, end))
 }
 
-/// The name at that place, whose first label run lies before `to`, and the place after it (RFC 1035, 4.1.4). It is read by the
-/// targets of the message (`dns_name::targets_of`), of which there may be none.
+// The character-string that the bytes begin with.
+fn string_of(bytes: &[u8]) -> Option<Text255>
+    ensures string { MatchOption result (TextIsCut bytes.now (length bytes.now) 0) (λ text. StandsWithin bytes.now 0 (length bytes.now) (string_wire text)) }
+    ensures short { IfSome result (λ text. length text ≤ 255) }
+{
+    let (size, rest) = bytes.split_first()?;
+    Text255::from_bytes(rest.get(..usize::from(*size))?)
+}
+
+/// The name at that place, whose first label run lies before `to`, and the place after it (RFC 1035, 4.1.4).
 ///
 /// # Errors
 /// `Shape` at the label or pointer of the first run that does not lie wholly before `to`; `Name` where the name is broken otherwise.
-pub fn name_in(
-    message: &[u8],
-    targets: &[u16],
-    at: usize,
-    to: usize,
-) -> Result<(Name, usize), InFault>
+pub fn name_in(message: &MessageBytes<'_>, at: usize, to: usize) -> Result<(Name, usize), InFault>
     requires begin { at ≤ to }
     requires end { to ≤ length message.now }
-    requires targets { AreTargets message.now targets.now }
     ensures name { NameIn message.now to at result }
     ensures within { IfOk result (λ read. (at < read.1) × (read.1 ≤ to)) }
 {
-    Ok(Name::read_within_by(message, targets, at, to)?)
+    Ok(message.name_within(at, to)?)
 }
 
 /// The value whose last field ends at that place.

@@ -2,7 +2,7 @@
 ghost use Rattle.std.specs.Prelude.{◌≡◌, ◌≤◌, ◌+◌, ◌++◌, length};
 ghost use Rattle.rdata_field.specs.Strings.{quoted_byte, quoted};
 
-use enum_base::{Buffer, Text255};
+use enum_base::{Buffer, Text255, decimal_escape};
 
 /// A character-string in quotes, at most 1,022 bytes: it has at most 255, and each is written as at most four.
 pub type QuotedText = Buffer<1022>;
@@ -33,11 +33,6 @@ fn push_quoted_byte(text: &mut QuotedText, byte: u8)
             text.push(byte);
         }
         0x20..=0x7E => text.push(byte),
-        _ => {
-            text.push(b'\\');
-            text.push(b'0' + byte / 100);
-            text.push(b'0' + byte / 10 % 10);
-            text.push(b'0' + byte % 10);
-        }
+        _ => text.push_slice(&decimal_escape(byte)),
     }
 }

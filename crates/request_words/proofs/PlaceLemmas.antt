@@ -1,13 +1,15 @@
 -- Places that are gathered from words.
-use Rattle.std.proofs.Common.{◌≡◌, get_or, ℕ, ◌+◌, ◌-◌, ◌<◌, ◌≤◌, Bool, true, false, List, [], ◌∷◌, ◌++◌, length, take, drop, set, replicate, refl, sym, ap, subst, ◌∙◌, append_assoc, length-append, add-one, arith}
+use Rattle.std.proofs.Common.{◌≡◌, get_or, ℕ, ◌+◌, ◌-◌, ◌<◌, ◌≤◌, Bool, true, false, List, [], ◌∷◌, ◌++◌, length, take}
+use Rattle.std.proofs.Common.{drop, set, replicate, refl, sym, ap, subst, ◌∙◌, append_assoc, length-append, add-one}
+use Rattle.std.proofs.Common.{arith}
 use Rattle.std.specs.Prelude.{bytes_eq, nat_lt, if◌then◌else◌, String, string_bytes}
 use Rattle.std.specs.declared.alloc.Global.{Global}
 use Rattle.std.proofs.Math.Seq.{set-append_seam}
 use Rattle.std.proofs.lemmas.Bool.Decides.{Decides-ltb}
 use Rattle.std.proofs.lemmas.List.{append-nil, take_all, take-append-le}
 use Rattle.enum_base.specs.Padding.{padded}
-use Rattle.request_words.specs.Reading.{places_in, places_from, with_place, with_value}
-use Rattle.request_words.specs.Words.{texts_of}
+use Rattle.request_words.specs.Reading.{places_in, with_place, with_value}
+use Rattle.request_words.specs.Words.{places_from, texts_of}
 use Rattle.request_words.specs.declared.places.Places.{Places}
 
 zeros_less : (k m : ℕ) → k ≡ m + 1 → replicate {A = ℕ} k 0 ≡ 0 ∷ replicate {A = ℕ} m 0
@@ -23,7 +25,9 @@ padded-push size cells cell room =
     ∙ sym (append_assoc cells (cell ∷ []) (replicate (size - length (cells ++ cell ∷ [])) 0))
 
 -- the cells with one place more
-cells_more : (values : List ℕ) (place : ℕ) (room : Bool) → nat_lt (length values) 64 ≡ room → (if room then set (padded 64 (take 64 values)) (length values) place else padded 64 (take 64 values)) ≡ padded 64 (take 64 (values ++ place ∷ []))
+cells_more : (values : List ℕ) (place : ℕ) (room : Bool) → nat_lt (length values) 64 ≡ room
+    → (if room then set (padded 64 (take 64 values)) (length values) place else padded 64 (take 64 values))
+    ≡ padded 64 (take 64 (values ++ place ∷ []))
 cells_more values place true is =
     let short : length values < 64 = (Decides-ltb (length values) 64).0 is in
     ap (λ vs. set (padded 64 vs) (length values) place) (take_all 64 values (omega arith))
@@ -47,21 +51,27 @@ added places (value ∷ values) = added (with_place places value) values
 added_from : (before values : List ℕ) → added (places_from before) values ≡ places_from (before ++ values)
 added_from before [] = ap places_from (sym (append-nil before))
 added_from before (value ∷ values) =
-    ap (λ (p : Places). added p values) (from_more before value) ∙ added_from (before ++ value ∷ []) values ∙ ap places_from (append_assoc before (value ∷ []) values)
+    ap (λ (p : Places). added p values) (from_more before value) ∙ added_from (before ++ value ∷ []) values
+        ∙ ap places_from (append_assoc before (value ∷ []) values)
 
 pub added_all : (values : List ℕ) → added (record { count = 0; at = replicate {A = ℕ} 64 0 }) values ≡ places_from values
 added_all values = added_from [] values
 
 -- the words that are left, by their first two
-pub words_left : (left : List (String Global)) (word : String Global) → 2 ≤ length left → word ≡ get_or left 0 word → (value : List ℕ) × (texts_of left ≡ string_bytes word ∷ value ∷ texts_of (take (length left - 2) (drop 2 left)))
+pub words_left : (left : List (String Global)) (word : String Global) → 2 ≤ length left → word ≡ get_or left 0 word
+    → (value : List ℕ) × (texts_of left ≡ string_bytes word ∷ value ∷ texts_of (take (length left - 2) (drop 2 left)))
 words_left [] word long is = absurd (omega arith)
 words_left (a ∷ []) word long is = absurd (omega arith)
 words_left (a ∷ b ∷ rest) word long is =
     let whole : take (length (a ∷ b ∷ rest) - 2) rest ≡ rest = take_all (length (a ∷ b ∷ rest) - 2) rest (omega arith) in
-    (string_bytes b, ap (λ (w : String Global). string_bytes w ∷ string_bytes b ∷ texts_of rest) (sym is) ∙ ap (λ (r : List (String Global)). string_bytes word ∷ string_bytes b ∷ texts_of r) (sym whole))
+    (string_bytes b, ap (λ (w : String Global). string_bytes w ∷ string_bytes b ∷ texts_of rest) (sym is)
+        ∙ ap (λ (r : List (String Global)). string_bytes word ∷ string_bytes b ∷ texts_of r) (sym whole))
 
 -- one option more was read
-pub added_more : (places more : Places) (option : List ℕ) (at : ℕ) (left : List (String Global)) (word : String Global) → 2 ≤ length left → word ≡ get_or left 0 word → more ≡ with_value places (string_bytes word) option at → added more (places_in option (at + 2) (texts_of (take (length left - 2) (drop 2 left)))) ≡ added places (places_in option at (texts_of left))
+pub added_more : (places more : Places) (option : List ℕ) (at : ℕ) (left : List (String Global)) (word : String Global)
+    → 2 ≤ length left → word ≡ get_or left 0 word → more ≡ with_value places (string_bytes word) option at
+    → added more (places_in option (at + 2) (texts_of (take (length left - 2) (drop 2 left))))
+    ≡ added places (places_in option at (texts_of left))
 added_more places more option at left word long is e =
     let parts = words_left left word long is in
     ap (λ (p : Places). added p rest) e ∙ by_test (bytes_eq (string_bytes word) option) ∙ ap (λ ws. added places (places_in option at ws)) (sym parts.1)
@@ -74,7 +84,8 @@ added_more places more option at left word long is e =
     by_test false = refl
 
 -- fewer than two words are left
-pub added_none : (places : Places) (option : List ℕ) (at : ℕ) (left : List (String Global)) → length left < 2 → added places (places_in option at (texts_of left)) ≡ places
+pub added_none : (places : Places) (option : List ℕ) (at : ℕ) (left : List (String Global)) → length left < 2
+    → added places (places_in option at (texts_of left)) ≡ places
 added_none places option at [] short = refl
 added_none places option at (a ∷ []) short = refl
 added_none places option at (a ∷ b ∷ left) short = absurd (omega arith)

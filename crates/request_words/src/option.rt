@@ -1,6 +1,8 @@
 //! Options of commands.
 ghost use Rattle.std.specs.Prelude.{◌≡◌};
-ghost use Rattle.request_words.specs.Rows.{option_word};
+ghost use Rattle.request_words.specs.Rows.{most_for, option_word};
+
+use crate::request::AppName;
 
 /// An option, whose value is the word after it.
 #[derive(Clone, Copy, Debug, PartialEq, Eq)]
@@ -26,10 +28,23 @@ impl OptionName {
     }
 }
 
-/// An option of a command, and how often it may stand.
+/// An option of a command, and how often it may stand; one of ENUM alone may not stand with another application.
 #[derive(Clone, Copy, Debug)]
 pub(crate) struct Choice {
     pub(crate) option: OptionName,
     pub(crate) least: usize,
     pub(crate) most: usize,
+    pub(crate) enum_alone: bool,
+}
+
+impl Choice {
+    /// How often it may stand at most with an application.
+    pub(crate) fn most_for(&self, app: AppName) -> usize
+        ensures { result ≡ most_for app self.now }
+    {
+        match app {
+            AppName::Enum => self.most,
+            AppName::Snaptr | AppName::Unaptr => { if self.enum_alone { 0 } else { self.most } }
+        }
+    }
 }

@@ -1,8 +1,8 @@
 //! Places of words.
-ghost use Rattle.std.specs.Prelude.{◌≡◌, ◌≤◌, ◌<◌, ◌^◌, length, take, string_bytes};
-ghost use Rattle.request_words.specs.Reading.{first_of, places_from, places_in, with_place, with_value};
+ghost use Rattle.std.specs.Prelude.{◌≡◌, ◌+◌, ◌≤◌, ◌<◌, ◌^◌, length, take, string_bytes};
+ghost use Rattle.request_words.specs.Reading.{places_in, with_place, with_value};
 ghost use Rattle.request_words.specs.Rows.{option_word};
-ghost use Rattle.request_words.specs.Words.{texts_of};
+ghost use Rattle.request_words.specs.Words.{first_of, places_from, texts_of};
 
 use crate::option::OptionName;
 use crate::words::is_word;
@@ -24,10 +24,12 @@ impl Places {
     }
 }
 
-/// The first place.
-pub(crate) fn first_of(places: &Places) -> Option<usize>
-    ensures { result ≡ first_of places.now }
+/// The place of the first value of one option, as of `places_of`.
+pub(crate) fn place_of(words: &[String], option: OptionName, place: usize) -> Option<usize>
+    requires { place + length words.now < 2 ^ 63 }
+    ensures { result ≡ first_of (places_in (option_word option) place (texts_of words.now)) }
 {
+    let places = places_of(words, option, place);
     if places.count == 0 {
         None
     } else {
@@ -38,7 +40,7 @@ pub(crate) fn first_of(places: &Places) -> Option<usize>
 /// The places of all values of one option among words that are options with their values, where the first value would
 /// stand at `place`. Of more than 64 the others are only counted.
 pub(crate) fn places_of(words: &[String], option: OptionName, place: usize) -> Places
-    requires { place ≤ 4 }
+    requires { place + length words.now < 2 ^ 63 }
     ensures { result ≡ places_from (places_in (option_word option) place (texts_of words.now)) }
 {
     let mut places = Places {

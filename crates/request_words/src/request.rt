@@ -19,17 +19,21 @@ pub enum Origin {
     Files(Places),
 }
 
-/// What the words ask for; each text by its place among the words, from 0.
+/// A string that is to be resolved; each text by its place among the words, from 0.
+#[derive(Clone, Copy, Debug)]
+pub struct Resolution {
+    pub app: AppName,
+    pub string: usize,
+    pub want: Option<usize>,
+    pub apex: Option<usize>,
+    pub origin: Origin,
+}
+
+/// What the words ask for.
 #[derive(Clone, Copy, Debug)]
 pub enum Request {
     /// The ends of a string.
-    Resolve {
-        app: AppName,
-        string: usize,
-        want: Option<usize>,
-        apex: Option<usize>,
-        origin: Origin,
-    },
+    Resolve(Resolution),
     /// The message in hexadecimal that the input is.
     Show,
 }

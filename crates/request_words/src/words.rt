@@ -1,23 +1,24 @@
 //! The words of a command.
-ghost use Rattle.std.specs.Prelude.{◌≡◌, IfOk, Ok, string_bytes, bytes_eq, find, option_map, zip};
-ghost use Rattle.std.specs.List.{list_all};
+ghost use Rattle.std.specs.Prelude.{◌≡◌, ◌+◌, ◌≤◌, ◌<◌, ◌^◌, IfOk, Ok, length, string_bytes, bytes_eq, find, option_map};
+ghost use Rattle.std.specs.List.{list_all, position};
 ghost use Rattle.std.specs.Result.{result_ok};
-ghost use Rattle.request_words.specs.Reading.{are_chosen, are_options, begin_with, entry_in, fits, is_often, is_option, options_in, request_in, request_of, size_of};
-ghost use Rattle.request_words.specs.Rows.{table};
-ghost use Rattle.request_words.specs.Words.{Means, texts_of, text_at};
+ghost use Rattle.request_words.specs.Reading.{app_in, app_named, are_chosen, are_options, is_often, is_option};
+ghost use Rattle.request_words.specs.Reading.{options_in, places_in, request_by, request_in, request_with, row_in};
+ghost use Rattle.request_words.specs.Rows.{app_word, is_app, option_word, size_of, table};
+ghost use Rattle.request_words.specs.Words.{Means, request_of, texts_of, text_at};
 ghost use Rattle.request_words.specs.declared.request.Request.{Request};
 
 use crate::option::{Choice, OptionName};
-use crate::places::{first_of, places_of};
-use crate::request::{Origin, Request};
+use crate::places::{place_of, places_of};
+use crate::request::{AppName, Origin, Request, Resolution};
 use crate::row::{Command, Row, table};
 
 /// The words are no request.
 #[derive(Clone, Copy, Debug, PartialEq, Eq)]
 pub struct Usage;
 
-/// Reads the words of a command as the table of commands says: its first words, its arguments, and its options in any
-/// order. The word after an option is its value, whatever it is. Takes no memory.
+/// Reads the words of a command as the table of commands says: its word, its arguments, and its options in any order.
+/// The word after an option is its value, whatever it is. Takes no memory.
 pub fn read_words(words: &[String]) -> Result<Request, Usage>
     ensures meant { IfOk result (λ request. Means (texts_of words.now) request) }
     ensures only { (request : Request) → Means (texts_of words.now) request → result ≡ Ok request }
@@ -29,82 +30,116 @@ pub fn read_words(words: &[String]) -> Result<Request, Usage>
 fn read_words_inner(words: &[String]) -> Result<Request, Usage>
     ensures { result_ok result ≡ request_in (texts_of words.now) }
 {
-    match row_of(words) {
-        Some(row) => Ok(request_of(row.command, options_of(words, &row))),
+    match row_of(text_at(words, 0).as_bytes()) {
+        Some(row) => request_by(&row, words).ok_or(Usage),
         None => Err(Usage),
     }
 }
 
-// The row that the words are those of.
-fn row_of(words: &[String]) -> Option<Row>
-    ensures { option_map entry_in result ≡ find (fits (texts_of words.now)) table }
+// The row of a command's word.
+fn row_of(word: &[u8]) -> Option<Row>
+    ensures { option_map row_in result ≡ find (λ row. bytes_eq word.now row.word) table }
 {
     for row in table() {
-        if fits(words, row) {
+        if word == row.word {
             return Some(*row);
         }
     }
     None
 }
 
-// The request of a command, whose options are these words.
-fn request_of(command: Command, options: &[String]) -> Request
-    ensures { result ≡ request_of command (texts_of options.now) }
+// The request that words of this row are.
+fn request_by(row: &Row, words: &[String]) -> Option<Request>
+    ensures { result ≡ request_by (row_in row.now) (texts_of words.now) }
+{
+    if words.len() < row.size() {
+        None
+    } else {
+        request_with(row, words, app_of(row, words))
+    }
+}
+
+// .. with the application that they name.
+fn request_with(row: &Row, words: &[String], app: Option<AppName>) -> Option<Request>
+    requires { size_of (row_in row.now) ≤ length words.now }
+    ensures { result ≡ request_with (row_in row.now) (texts_of words.now) app }
+{
+    let app = app?;
+    let options = options_of(row, words);
+    if are_chosen(options, row.choices, app) {
+        Some(request_of(row.command, app, options, row.size() + 1))
+    } else {
+        None
+    }
+}
+
+// The words of the options.
+fn options_of<'a>(row: &Row, words: &'a [String]) -> &'a [String]
+    requires { size_of (row_in row.now) ≤ length words.now }
+    ensures words { texts_of result.now ≡ options_in (row_in row.now) (texts_of words.now) }
+    ensures count { size_of (row_in row.now) + length result.now ≡ length words.now }
+{
+    &words[row.size()..]
+}
+
+// The request of a command, whose options are these words, and the first value may stand at this place.
+fn request_of(command: Command, app: AppName, options: &[String], place: usize) -> Request
+    requires { place + length options.now < 2 ^ 63 }
+    ensures { result ≡ request_of command app (λ option. places_in (option_word option) place (texts_of options.now)) }
 {
     match command {
-        Command::Resolve(app) => Request::Resolve {
+        Command::Resolve => Request::Resolve(Resolution {
             app,
             string: 2,
-            want: first_of(&places_of(options, OptionName::Want, 4)),
-            apex: first_of(&places_of(options, OptionName::Apex, 4)),
-            origin: Origin::Files(places_of(options, OptionName::Zones, 4)),
-        },
+            want: place_of(options, OptionName::Want, place),
+            apex: place_of(options, OptionName::Apex, place),
+            origin: Origin::Files(places_of(options, OptionName::Zones, place)),
+        }),
         Command::Show => Request::Show,
     }
 }
 
-// Whether the words are those of a row.
-fn fits(words: &[String], row: &Row) -> bool
-    ensures { result ≡ fits (texts_of words.now) (entry_in row.now) }
+// The application that words of this row name; ENUM where the row has no place for it.
+fn app_of(row: &Row, words: &[String]) -> Option<AppName>
+    ensures { result ≡ app_in (position is_app row.now.arguments.now) (texts_of words.now) }
 {
-    if words.len() < size_of(row) {
-        return false;
+    match row.app_place() {
+        Some(place) => app_named(text_at(words, place.saturating_add(1)).as_bytes()),
+        None => Some(AppName::Enum),
     }
-    if !begin_with(words, row.heads) {
-        return false;
+}
+
+// The application of this name.
+fn app_named(word: &[u8]) -> Option<AppName>
+    ensures { result ≡ app_named word.now }
+{
+    if word == app_word(AppName::Enum) {
+        Some(AppName::Enum)
+    } else if word == app_word(AppName::Snaptr) {
+        Some(AppName::Snaptr)
+    } else if word == app_word(AppName::Unaptr) {
+        Some(AppName::Unaptr)
+    } else {
+        None
     }
-    are_chosen(options_of(words, row), row.choices)
 }
 
-// How many words a row has before its options.
-fn size_of(row: &Row) -> usize
-    ensures { result ≡ size_of (entry_in row.now).row }
+// The name of an application.
+fn app_word(app: AppName) -> &'static [u8]
+    ensures { result.now ≡ app_word app }
 {
-    row.heads.len() + row.arguments as usize
-}
-
-// The words of the options.
-fn options_of<'a>(words: &'a [String], row: &Row) -> &'a [String]
-    ensures { texts_of result.now ≡ options_in (entry_in row.now).row (texts_of words.now) }
-{
-    &words[size_of(row).min(words.len())..]
-}
-
-// Whether words begin with these, which are no more than they.
-fn begin_with(words: &[String], heads: &[&[u8]]) -> bool
-    ensures { result ≡ list_all (λ pair. bytes_eq (string_bytes pair.1) pair.0.now) (zip heads.now words.now) }
-{
-    heads
-        .iter()
-        .zip(words)
-        .all(|(head, word)| is_word(word, head))
+    match app {
+        AppName::Enum => b"enum",
+        AppName::Snaptr => b"snaptr",
+        AppName::Unaptr => b"unaptr",
+    }
 }
 
 // Whether the words are options of these with their values, each as often as it may stand.
-fn are_chosen(words: &[String], choices: &[Choice]) -> bool
-    ensures { result ≡ are_chosen choices.now (texts_of words.now) }
+fn are_chosen(words: &[String], choices: &[Choice], app: AppName) -> bool
+    ensures { result ≡ are_chosen app choices.now (texts_of words.now) }
 {
-    are_options(words, choices) && each_often(words, choices)
+    are_options(words, choices) && each_often(words, choices, app)
 }
 
 fn are_options(words: &[String], choices: &[Choice]) -> bool
@@ -128,17 +163,17 @@ fn is_option(word: &String, choices: &[Choice]) -> bool
         .any(|choice| is_word(word, choice.option.word()))
 }
 
-fn each_often(words: &[String], choices: &[Choice]) -> bool
-    ensures { result ≡ list_all (is_often (texts_of words.now)) choices.now }
+fn each_often(words: &[String], choices: &[Choice], app: AppName) -> bool
+    ensures { result ≡ list_all (is_often app (texts_of words.now)) choices.now }
 {
-    choices.iter().all(|choice| is_often(words, choice))
+    choices.iter().all(|choice| is_often(words, choice, app))
 }
 
-fn is_often(words: &[String], choice: &Choice) -> bool
-    ensures { result ≡ is_often (texts_of words.now) choice.now }
+fn is_often(words: &[String], choice: &Choice, app: AppName) -> bool
+    ensures { result ≡ is_often app (texts_of words.now) choice.now }
 {
     let count = places_of(words, choice.option, 0).count;
-    choice.least <= count && count <= choice.most
+    choice.least <= count && count <= choice.most_for(app)
 }
 
 /// Whether a word is this one.

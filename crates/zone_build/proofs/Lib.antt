@@ -6,6 +6,7 @@ pub mod DecideLemmas
 pub mod FaultLemmas
 pub mod FindLemmas
 pub mod FrontLemmas
+pub mod IndexLemmas
 pub mod LargeLemmas
 pub mod ListLemmas
 pub mod MakeZoneLemmas

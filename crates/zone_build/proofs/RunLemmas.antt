@@ -115,8 +115,8 @@ run_ends key all head next at o ordered h is within alike order not =
     after : key_order key head.given next.given ≡ Less → (other : Given) → Contains (drop at all) other → key_order key head.given other.given ≡ Less
     after first other d = elim (from_place at all next other ordered within is d) [
       | inl same ↦ subst (λ (g : Given). key_order key head.given g.given ≡ Less) (sym same) first
-      | inr after ↦
-          less_not_after (key_order key) (key_order-total key) head.given next.given other.given first (key_not_after key next.given other.given after)
+      | inr far ↦
+          less_not_after (key_order key) (key_order-total key) head.given next.given other.given first (key_not_after key next.given other.given far)
     ]
 
 -- all are alike

@@ -1,26 +1,26 @@
--- The steps of a look-up, for private functions alone (this project's own).
-use Rattle.std.specs.Prelude.{◌≢◌, ◌⊎◌, ℕ, ◌<◌, ◌≤◌, List, length, take, slice_index_or, Contains}
-use Rattle.std.specs.declared.cmp.Ordering.TheVariants.{Equal}
-use Rattle.std.specs.Ordering.{nat_cmp}
-use Rattle.std.specs.Cmp.Lexicographic.{slice_cmp}
-use Rattle.dns_name.specs.Name.{wire_of, folded_labels}
+-- The steps of a look-up at a name, for private functions but for `IsLeastKindAt` (this project's own).
+use Rattle.std.specs.Prelude.{◌≡◌, ℕ, ◌<◌, ◌≤◌, ◌&&◌, nat_lt, if◌then◌else◌, Bool, List, Contains, Option, Some, None}
+use Rattle.dns_name.specs.Name.{AreSame}
 use Rattle.naptr_data.specs.Zones.{Labels}
+use Rattle.dns_wire.specs.Kinds.{soa}
 use Rattle.dns_wire.specs.declared.record.Record.{Record}
-use Rattle.zone_build.specs.Zone.{IsIn}
+use Rattle.zone_build.specs.Indexing.{kind_at}
+use Rattle.zone_build.specs.declared.places.Places.{Places}
 
--- a record is not of that owner and kind, by the order of owners
-abbrev pub Differs : Labels → ℕ → Record → Type 0
-Differs owner kind one =
-    (one.kind ≢ kind) ⊎ (slice_cmp nat_cmp (wire_of (folded_labels one.owner)) (wire_of (folded_labels owner)) ≢ Equal)
+-- among the records at some places those before this one have lesser kinds, and the others have not
+pub record IsKindStart (records : List Record) (places : Places) (kind at : ℕ) : Type 0 where
+  pub from : places.first ≤ at
+  pub to : at ≤ places.end
+  pub less : (k : ℕ) → places.first ≤ k → k < at → kind_at records k < kind
+  pub not_less : (k : ℕ) → at ≤ k → k < places.end → kind ≤ kind_at records k
 
--- the first record of that owner and kind, or the length
-pub record IsFrom (owner : Labels) (kind : ℕ) (records : List Record) (at : ℕ) : Type 0 where
-  pub within : at ≤ length records
-  pub none : (one : Record) → Contains (take at records) one → Differs owner kind one
-  pub here : (d : Record) → at < length records → IsIn owner kind (slice_index_or records at d)
+-- the lesser of a kind and that of the SOA, where it is there too
+abbrev pub least_kind_with : Bool → ℕ → ℕ
+least_kind_with is_apex kind = if is_apex && nat_lt soa kind then soa else kind
 
--- so many records in front are of that owner and kind, and the next one is not
-pub record IsFront (owner : Labels) (kind : ℕ) (records : List Record) (size : ℕ) : Type 0 where
-  pub within : size ≤ length records
-  pub each : (one : Record) → Contains (take size records) one → IsIn owner kind one
-  pub ends : (d : Record) → size < length records → Differs owner kind (slice_index_or records size d)
+-- the least kind of the records at an owner, where there are any
+abbrev pub IsLeastKindAt : List Record → Labels → Option ℕ → Type 0
+IsLeastKindAt records owner None = (one : Record) → Contains records one → ¬ AreSame one.owner owner
+IsLeastKindAt records owner (Some kind) =
+    ((one : Record) × Contains records one × AreSame one.owner owner × (one.kind ≡ kind))
+    × ((one : Record) → Contains records one → AreSame one.owner owner → kind ≤ one.kind)

@@ -3,6 +3,7 @@ pub mod Built
 pub mod FaultWords
 pub mod Faults
 pub mod Finding
+pub mod Indexing
 pub mod Laws
 pub mod Plain
 pub mod Zone

@@ -1,11 +1,13 @@
 //! Zones.
-ghost use Rattle.std.specs.Prelude.{◌≡◌, ◌≤◌, length, Contains, IfOk, IfErr};
+ghost use Rattle.std.specs.Prelude.{◌≡◌, ◌↔◌, ◌≤◌, length, Contains, IsTrue, IfOk, IfErr};
 
 use crate::arrange::arranged;
 use crate::build::{last_fault, plan_of};
 use crate::count::count_in;
 use crate::fault::ZoneFault;
-use crate::find::set_of;
+use crate::find::{has_below, least_kind_of, set_of};
+use crate::index::Index;
+use crate::indexing::index_of;
 use dns_name::Name;
 use dns_wire::{Record, Records};
 use std::alloc::Global;
@@ -16,20 +18,27 @@ use std::marker::Model;
 pub struct Zone {
     apex: Name,
     records: Vec<Record>,
+    index: Index,
 }
 
 impl Model for Zone {
     ghost use Rattle.zone_build.specs.Zone as zone;
+    ghost use Rattle.zone_build.specs.Indexing.{IsIndex};
 
     ghost Value = { zone.Zone };
 
     ghost view = { λ z. record { apex = z.apex; records = z.records.items } };
 
-    ghost invariant = { λ z. zone.IsValid (record { apex = z.apex; records = z.records.items }) };
+    ghost invariant = { λ z. record {
+      valid : zone.IsValid (record { apex = z.apex; records = z.records.items });
+      indexed : IsIndex z.records.items z.apex z.index;
+    } };
 }
 
 impl Zone {
+    ghost use Rattle.dns_name.specs.Name.{AreSame, IsBelow};
     ghost use Rattle.zone_build.specs.Zone.{IsPlain, IsSet, IsValid};
+    ghost use Rattle.zone_build.specs.Finding.{IsLeastKindAt};
     ghost use Rattle.naptr_data.specs.Zones.{rules_and_aliases_in};
     ghost use Rattle.zone_build.specs.Built.{IsBuilt};
     ghost use Rattle.zone_build.specs.Plain.{plain_of};
@@ -55,6 +64,7 @@ impl Zone {
         match last_fault(kept.as_slice(), plan.cut) {
             Some(fault) => Err(fault),
             None => Ok(Zone {
+                index: index_of(alloc, kept.as_slice(), &plan.apex)?,
                 apex: plan.apex,
                 records: kept,
             }),
@@ -65,7 +75,23 @@ impl Zone {
     pub fn set(&self, owner: &Name, kind: u16) -> &[Record]
         ensures { IsSet self.now.records owner.now kind result.now }
     {
-        set_of(self.records(), owner, kind)
+        set_of(self.records.as_slice(), &self.index, owner, kind)
+    }
+
+    /// The least kind of the records whose owner is that name, compared folded.
+    pub fn least_kind(&self, owner: &Name) -> Option<u16>
+        ensures { IsLeastKindAt self.now.records owner.now result }
+    {
+        least_kind_of(self.records.as_slice(), &self.index, owner)
+    }
+
+    /// Whether a record is at or below a name that is itself below the apex (RFC 4592, 2.2.2).
+    pub fn has_below(&self, name: &Name) -> bool
+        requires inside { IsBelow name.now self.now.apex }
+        requires below { ¬ AreSame name.now self.now.apex }
+        ensures { IsTrue result ↔ ((one : Record) × Contains self.now.records one × IsBelow one.owner name.now) }
+    {
+        has_below(self.records.as_slice(), &self.index, &self.apex, name)
     }
 
     /// How many rules and CNAMEs it holds.

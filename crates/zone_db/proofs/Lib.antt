@@ -5,6 +5,6 @@ pub mod FoundLemmas
 pub mod KeepLemmas
 pub mod OfferLemmas
 pub mod OneFoundLemmas
-pub mod PlaceLemmas
+pub mod RuleLemmas
 pub mod SeekLemmas
 pub mod SetLemmas

@@ -28,6 +28,7 @@ use Rattle.zone_db.specs.declared.found.Found.{Found}
 use Rattle.zone_db.specs.declared.found.Found.TheVariants as found
 use Rattle.zone_build.proofs.ListLemmas.{AllByRecursion-contains}
 use Rattle.zone_db.proofs.SeekLemmas.{owned_in, in_owned}
+use Rattle.zone_db.proofs.RuleLemmas.{rdata_rises}
 
 item_ns : (c : Content) → kind_of c ≡ ns → IsTrue (is_whole c) → item_of c ≡ delegation
 item_ns (content.A address) e w = absurd (omega (arith, e))
@@ -319,8 +320,9 @@ found_is_readable zones name kind (found.Alias set) are (zone, source, served, m
     let t = cname_content f.0.content (sym (kind_of_record zone f.0 valid f.2) ∙ f.3) (valid.plain f.0 f.2).whole in
     (f.0, t.0, f.1, t.1)
 found_is_readable zones name kind (found.Set set) are (zone, source, k, served, not, answered, s) =
-    let small = (valid_zone zones zone are served.decides.among).small source k set.now s in
+    let valid = valid_zone zones zone are served.decides.among in
+    let small = valid.small source k set.now s in
     let w = weighs set.now in
-    omega (arith, small, w)
+    (omega (arith, small, w), rdata_rises zone.records source k set.now valid.order s)
 found_is_readable zones name kind (found.NoSet start) are h = tt
 found_is_readable zones name kind (found.NoName start) are h = tt

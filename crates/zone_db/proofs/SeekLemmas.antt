@@ -1,23 +1,23 @@
 -- Existing names, closest enclosers, cuts and answers of a zone.
-use Rattle.std.proofs.Common.{◌≡◌, ◌⊎◌, inl, inr, ℕ, suc, ◌+◌, ◌<◌, ◌≤◌, List, [], ◌∷◌, ◌++◌, length, map, get_or, Option, Some, None, refl, sym, ap, subst, ◌∙◌, arith, append_assoc, length-append}
+use Rattle.std.proofs.Common.{◌≡◌, ◌≢◌, ◌⊎◌, inl, inr, ℕ, suc, ◌+◌, ◌<◌, ◌≤◌, List, [], ◌∷◌, ◌++◌, length, map, get_or, Option, Some, None, refl, sym, ap, subst, ◌∙◌, arith, append_assoc, length-append}
 use Rattle.std.specs.Prelude.{Contains}
 use Rattle.std.specs.List.{flat_map}
-use Rattle.std.proofs.lemmas.Bool.Decides.{nat_tests}
 use Rattle.std.proofs.lemmas.List.Elements.{Contains-append_left, Contains-append_right, Contains-append_cases}
 use Rattle.naptr_data.proofs.CutLemmas.{Contains-head, Contains-after, Contains-none, Contains-middle, head_or_after}
-use Rattle.naptr_data.proofs.BelowLemmas.{below_itself, below_same_top, below_same_name, below_trans, below_longer}
+use Rattle.naptr_data.proofs.BelowLemmas.{below_itself, below_same_top, below_same_name, below_more}
 use Rattle.naptr_data.proofs.DecideLemmas.{below_parts}
-use Rattle.naptr_data.specs.Zones.{Labels, Owned, Exists, Encloses, star}
+use Rattle.naptr_data.specs.Zones.{Labels, Owned, Exists, Encloses, IsSource, star}
 use Rattle.dns_name.specs.Name.{AreSame, IsBelow, IsName, IsLabel, folded_labels, label_wire, wire_of, parent_of, name_within}
 use Rattle.dns_name.proofs.NameLemmas.{wire_of-append, name_within-fits}
-use Rattle.dns_wire.specs.Kinds.{cname, soa}
+use Rattle.dns_wire.specs.Kinds.{ns, cname, soa}
 use Rattle.dns_wire.specs.declared.record.Record.{Record}
-use Rattle.zone_build.specs.Zone.{Zone, IsIn, IsSet, IsCanonical}
+use Rattle.zone_build.specs.Zone.{Zone, IsIn, IsSet, IsCanonical, IsValid}
+use Rattle.zone_build.specs.Finding.{IsLeastKindAt}
+use Rattle.zone_build.proofs.IndexLemmas.{below_both}
 use Rattle.zone_build.specs.Plain.{owned_of, plain_of}
-use Rattle.zone_db.specs.LookUp.{IsHighestCut, HasKind, Answers, MeetsAlias, IsAnswered}
-use Rattle.zone_build.specs.Building.{least_of}
-use Rattle.zone_db.specs.Seeking.{IsClosest, CutsOff, IsHighest, IsLeastKind, IsUncut}
-use Rattle.zone_build.proofs.ListLemmas.{AllByRecursion-contains, only_one}
+use Rattle.zone_db.specs.LookUp.{IsHighestCut, HasKind, Answers, MeetsAlias, IsAnswered, every}
+use Rattle.zone_db.specs.Seeking.{IsClosest, IsHighest, IsNsAt, IsLeastKind, IsUncut}
+use Rattle.zone_build.proofs.ListLemmas.{AllByRecursion-contains}
 
 -- records as they are told
 pub owned_in : (records : List Record) (one : Record) → Contains records one → Contains (map owned_of records) (owned_of one)
@@ -119,65 +119,66 @@ wildcard_fits zone name encloser h e =
     let whole = ap (λ n. length (wire_of n)) e.parts ∙ ap length (sym (wire_of-append e.front (e.label ∷ encloser))) ∙ length-append (flat_map label_wire e.front) (wire_of (e.label ∷ encloser)) in
     name_within-fits (star ∷ encloser) (omega (arith, whole, length-wire e.label encloser, length-wire star encloser))
 
--- cuts, one record after another
-among_more : (records : List Record) (one r : Record) → Contains (records ++ one ∷ []) r → Contains records r ⊎ (r ≡ one)
-among_more records one r c = elim (Contains-append_cases records (one ∷ []) r c) [ inl old ↦ inl old | inr new ↦ inr (only_one one r new) ]
+-- the name above one that is below the apex is at or below the apex
+pub parent_inside : (apex name above : Labels) → Some above ≡ parent_of name → ¬ AreSame name apex → IsBelow name apex → IsBelow above apex
+parent_inside apex [] above is not b = absurd (cc)
+parent_inside apex (label ∷ name) above is not b =
+    let e : above ≡ name = cc in
+    elim (below_parts label name apex b) [ inl same ↦ absurd (not same) | inr inside ↦ subst (λ n. IsBelow n apex) (sym e) inside ]
 
-pub highest_passed : (records : List Record) (apex name : Labels) (best : Option Record) (one : Record) → ¬ CutsOff apex name one → IsHighest records apex name best → IsHighest (records ++ one ∷ []) apex name best
-highest_passed records apex name None one not h = λ r c k. elim (among_more records one r c) [
-  | inl old ↦ h r old k
-  | inr new ↦ not (subst (CutsOff apex name) new k)
+pub root_is_apex : (apex name : Labels) → None ≡ parent_of name → IsBelow name apex → AreSame name apex
+root_is_apex apex [] is ([], back, parts, same) = ap folded_labels parts ∙ same
+root_is_apex apex [] is (l ∷ front, back, parts, same) = absurd (cc)
+root_is_apex apex (label ∷ name) is b = absurd (cc)
+
+-- the source of a name lies in the zone
+pub source_inside : (zone : Zone) (name source : Labels) → IsBelow name zone.apex → IsSource (plain_of zone) name source → IsBelow source zone.apex
+source_inside zone name source inside (inl own) = subst (λ n. IsBelow n zone.apex) (sym own.1) inside
+source_inside zone name source inside (inr wild) = subst (λ n. IsBelow n zone.apex) (sym wild.1.2) (below_more star wild.1.0 zone.apex wild.1.1.inside)
+
+-- cuts, from the apex down
+pub cut_at_apex : (zone : Zone) (name : Labels) → IsValid zone → AreSame name zone.apex → IsHighest zone.records zone.apex name None
+cut_at_apex zone name v same one c (kind, not, below) =
+    not (below_both one.owner zone.apex (v.inside one c) (below_same_name name zone.apex one.owner same below))
+
+at_or_above : (name above top : Labels) → Some above ≡ parent_of name → IsBelow name top → AreSame name top ⊎ IsBelow above top
+at_or_above [] above top is b = absurd (cc)
+at_or_above (label ∷ name) above top is b =
+    let e : above ≡ name = cc in
+    elim (below_parts label name top b) [ inl same ↦ inl same | inr further ↦ inr (subst (λ n. IsBelow n top) (sym e) further) ]
+
+under : (name above top : Labels) → Some above ≡ parent_of name → IsBelow above top → IsBelow name top
+under [] above top is b = absurd (cc)
+under (label ∷ name) above top is b = let e : above ≡ name = cc in below_more label name top (subst (λ n. IsBelow n top) e b)
+
+pub cut_above : (records : List Record) (apex name above : Labels) (cut : Record) → Some above ≡ parent_of name → IsHighest records apex above (Some cut) → IsHighest records apex name (Some cut)
+cut_above records apex name above cut is h = (
+  h.0,
+  (h.1.0, h.1.1, under name above cut.owner is h.1.2),
+  λ one c k. elim (at_or_above name above one.owner is k.2) [
+    | inl same ↦ below_same_name name one.owner cut.owner same (under name above cut.owner is h.1.2)
+    | inr further ↦ h.2 one c (k.0, k.1, further)
+  ],
+)
+
+pub cut_here : (records : List Record) (apex name above : Labels) (here : Option Record) → Some above ≡ parent_of name → ¬ AreSame name apex → IsHighest records apex above None → IsNsAt records name here → IsHighest records apex name here
+cut_here records apex name above None is not none lacking = λ one c k. elim (at_or_above name above one.owner is k.2) [
+  | inl same ↦ lacking one c (sym same, k.0)
+  | inr further ↦ none one c (k.0, k.1, further)
 ]
-highest_passed records apex name (Some cut) one not h = (
-  Contains-append_left records (one ∷ []) cut h.0,
-  h.1,
-  λ r c k. elim (among_more records one r c) [
-    | inl old ↦ h.2 r old k
-    | inr new ↦ absurd (not (subst (CutsOff apex name) new k))
+cut_here records apex name above (Some cut) is not none (c, i) = (
+  c,
+  (i.1, (λ same. not (sym i.0 ∙ same)), below_same_top name name cut.owner (sym i.0) (below_itself name)),
+  λ one d k. elim (at_or_above name above one.owner is k.2) [
+    | inl same ↦ below_same_name name one.owner cut.owner same (below_same_top name name cut.owner (sym i.0) (below_itself name))
+    | inr further ↦ absurd (none one d (k.0, k.1, further))
   ],
 )
 
-pub highest_kept : (records : List Record) (apex name : Labels) (cut one : Record) → IsBelow one.owner cut.owner → IsHighest records apex name (Some cut) → IsHighest (records ++ one ∷ []) apex name (Some cut)
-highest_kept records apex name cut one below h = (
-  Contains-append_left records (one ∷ []) cut h.0,
-  h.1,
-  λ r c k. elim (among_more records one r c) [
-    | inl old ↦ h.2 r old k
-    | inr new ↦ subst (λ (x : Record). IsBelow x.owner cut.owner) (sym new) below
-  ],
-)
-
-pub highest_first : (records : List Record) (apex name : Labels) (one : Record) → CutsOff apex name one → IsHighest records apex name None → IsHighest (records ++ one ∷ []) apex name (Some one)
-highest_first records apex name one cuts h = (
-  Contains-append_right records (one ∷ []) one (Contains-head one []),
-  cuts,
-  λ r c k. elim (among_more records one r c) [
-    | inl old ↦ absurd (h r old k)
-    | inr new ↦ subst (λ (x : Record). IsBelow x.owner one.owner) (sym new) (below_itself one.owner)
-  ],
-)
-
-longer_or_not : (n m : ℕ) → (n < m) ⊎ (m ≤ n)
-longer_or_not n m = grind arith
-
-pub highest_higher : (records : List Record) (apex name : Labels) (cut one : Record) → CutsOff apex name one → ¬ IsBelow one.owner cut.owner → IsHighest records apex name (Some cut) → IsHighest (records ++ one ∷ []) apex name (Some one)
-highest_higher records apex name cut one cuts not h = (
-  Contains-append_right records (one ∷ []) one (Contains-head one []),
-  cuts,
-  λ r c k. elim (among_more records one r c) [
-    | inl old ↦ below_trans r.owner cut.owner one.owner (h.2 r old k) higher
-    | inr new ↦ subst (λ (x : Record). IsBelow x.owner one.owner) (sym new) (below_itself one.owner)
-  ],
-)
-  where
-    higher : IsBelow cut.owner one.owner
-    higher = elim (longer_or_not (length one.owner) (length cut.owner)) [
-      | inl shorter ↦ below_longer name cut.owner one.owner h.1.2 cuts.2 (omega arith)
-      | inr longer ↦ absurd (not (below_longer name one.owner cut.owner cuts.2 h.1.2 longer))
-    ]
-
-pub highest_none : (apex name : Labels) → IsHighest [] apex name None
-highest_none apex name one c k = Contains-none one c
+pub ns_first : (records set : List Record) (name : Labels) (d : Record) → IsSet records name ns set → 0 < length set → Contains records (get_or set 0 d) × IsIn name ns (get_or set 0 d)
+ns_first records [] name d s some = absurd (omega arith)
+ns_first records (one ∷ rest) name d s some =
+    (subst (λ l. Contains l one) (sym s.parts) (Contains-append_right s.before ((one ∷ rest) ++ s.after) one (Contains-head one (rest ++ s.after))), s.each.0)
 
 -- a set has a record of its name and kind, or none is there
 pub set_has : (records : List Record) (owner : Labels) (kind : ℕ) (set : List Record) → IsSet records owner kind set → 0 < length set → (one : Record) × Contains records one × IsIn owner kind one
@@ -198,53 +199,18 @@ start_first [] start c is = absurd c
 start_first (x ∷ rest) start c is =
     (subst (λ r. Contains (x ∷ rest) r) (sym is) (Contains-head x rest), ap (λ (r : Record). r.kind) is ∙ c.0)
 
--- the least kind that answers, one record after another
-abbrev AnswersAt : Labels → ℕ → Record → Type 0
-AnswersAt source asked one = AreSame one.owner source × Answers asked one.kind
+-- the least kind that answers
+pub least_of_all : (records : List Record) (source : Labels) (asked : ℕ) (least : Option ℕ) → asked ≡ every → IsLeastKindAt records source least → IsLeastKind records source asked least
+least_of_all records source asked None all none = λ one c same answers. none one c same
+least_of_all records source asked (Some kind) all h = ((h.0.0, h.0.1, h.0.2, h.0.3, inr all), λ one c same answers. h.1 one c same)
 
-pub least_passed : (records : List Record) (source : Labels) (asked : ℕ) (least : Option ℕ) (one : Record) → ¬ AnswersAt source asked one → IsLeastKind records source asked least → IsLeastKind (records ++ one ∷ []) source asked least
-least_passed records source asked None one not h = λ r c same answers. elim (among_more records one r c) [
-  | inl old ↦ h r old same answers
-  | inr new ↦ not (subst (AnswersAt source asked) new (same, answers))
-]
-least_passed records source asked (Some kind) one not h = (
-  (h.0.0, Contains-append_left records (one ∷ []) h.0.0 h.0.1, h.0.2, h.0.3, h.0.4),
-  λ r c same answers. elim (among_more records one r c) [
-    | inl old ↦ h.1 r old same answers
-    | inr new ↦ absurd (not (subst (AnswersAt source asked) new (same, answers)))
-  ],
-)
+pub least_of_one : (records : List Record) (source : Labels) (asked : ℕ) (set : List Record) → asked ≢ every → IsSet records source asked set → 0 < length set → IsLeastKind records source asked (Some asked)
+least_of_one records source asked set not s some =
+    let f = set_has records source asked set s some in
+    ((f.0, f.1, f.2.0, f.2.1, inl refl), λ one c same answers. elim answers [ inl is ↦ omega arith | inr all ↦ absurd (not all) ])
 
-least_cases : (known kind : ℕ) → ((least_of (Some known) kind ≡ known) × (known ≤ kind)) ⊎ ((least_of (Some known) kind ≡ kind) × (kind ≤ known))
-least_cases known kind = grind (arith, nat_tests)
-
-pub least_met : (records : List Record) (source : Labels) (asked : ℕ) (least : Option ℕ) (one : Record) → AnswersAt source asked one → IsLeastKind records source asked least → IsLeastKind (records ++ one ∷ []) source asked (Some (least_of least one.kind))
-least_met records source asked None one here h = (
-  (one, Contains-append_right records (one ∷ []) one (Contains-head one []), here.0, refl, here.1),
-  λ r c same answers. elim (among_more records one r c) [
-    | inl old ↦ absurd (h r old same answers)
-    | inr new ↦ let e = ap (λ (x : Record). x.kind) new in omega (arith, e)
-  ],
-)
-least_met records source asked (Some known) one here h = elim (least_cases known one.kind) [
-  | inl old ↦ (
-    (h.0.0, Contains-append_left records (one ∷ []) h.0.0 h.0.1, h.0.2, h.0.3 ∙ sym old.0, subst (Answers asked) (sym old.0) h.0.4),
-    λ r c same answers. let p = old.0 in let q = old.1 in elim (among_more records one r c) [
-      | inl before ↦ let l = h.1 r before same answers in omega (arith, l, p)
-      | inr new ↦ let e = ap (λ (x : Record). x.kind) new in omega (arith, e, p, q)
-    ],
-  )
-  | inr fresh ↦ (
-    (one, Contains-append_right records (one ∷ []) one (Contains-head one []), here.0, sym fresh.0, subst (Answers asked) (sym fresh.0) here.1),
-    λ r c same answers. let p = fresh.0 in let q = fresh.1 in elim (among_more records one r c) [
-      | inl before ↦ let l = h.1 r before same answers in omega (arith, l, p, q)
-      | inr new ↦ let e = ap (λ (x : Record). x.kind) new in omega (arith, e, p)
-    ],
-  )
-]
-
-pub least_none : (source : Labels) (asked : ℕ) → IsLeastKind [] source asked None
-least_none source asked one c same answers = Contains-none one c
+pub least_of_none : (records : List Record) (source : Labels) (asked : ℕ) (set : List Record) → asked ≢ every → IsSet records source asked set → length set ≤ 0 → IsLeastKind records source asked None
+least_of_none records source asked set not s none one c same answers = elim answers [ inl is ↦ set_none records source asked set s none one c (same, sym is) | inr all ↦ not all ]
 
 -- what the least kind means
 pub is_answered : (zone : Zone) (source : Labels) (asked kind : ℕ) → IsLeastKind zone.records source asked (Some kind) → IsAnswered zone source asked kind

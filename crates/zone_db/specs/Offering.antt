@@ -1,9 +1,14 @@
 -- Zones as a source of rules, for private functions but for `Asked` (this project's own).
-use Rattle.std.specs.Prelude.{◌≡◌, ℕ, ◌<◌, ◌≤◌, List, [], ◌∷◌, length, slice_index_or, ⊤}
-use Rattle.std.specs.declared.cmp.Ordering.TheVariants.{Less, Greater}
-use Rattle.naptr_rule.specs.Rank.{rank_of}
+use Rattle.std.specs.Prelude.{◌≡◌, ◌≢◌, ℕ, ◌≤◌, List, [], ◌∷◌, ◌++◌, length, ⊤}
+use Rattle.std.specs.List.{AllByRecursion}
+use Rattle.std.specs.declared.cmp.Ordering.TheVariants.{Less}
+use Rattle.std.specs.Ordering.{nat_cmp}
+use Rattle.std.specs.Cmp.Lexicographic.{slice_cmp}
+use Rattle.naptr_rule.specs.Rdata.{IsRule}
 use Rattle.naptr_data.specs.Zones.{Labels}
 use Rattle.naptr_rule.specs.declared.rule.Naptr.{Naptr}
+use Rattle.dns_wire.specs.Rdata.{rdata_of}
+use Rattle.dns_wire.specs.declared.content.Content.{Content}
 use Rattle.dns_wire.specs.declared.content.Content.TheVariants as content
 use Rattle.dns_wire.specs.declared.record.Record.{Record}
 use Rattle.zone_build.specs.Zone.{Zone}
@@ -15,16 +20,22 @@ pub record Asked : Type 0 where
   pub zones : List Zone
   pub asks : ℕ
 
--- a rule goes here among others: all before rank before it, and the next one after it
-pub record IsPlace (rules : List Naptr) (rule : Naptr) (at : ℕ) : Type 0 where
-  pub before : (k : ℕ) (d : Naptr) → k < at → rank_of (slice_index_or rules k d) rule ≡ Less
-  pub after : (d : Naptr) → at < length rules → rank_of (slice_index_or rules at d) rule ≡ Greater
+-- the RDATA of each record comes before that of all after it
+abbrev pub RdataRises : List Record → Type 0
+RdataRises [] = Unit {0}
+RdataRises (one ∷ rest) =
+    AllByRecursion (λ next. slice_cmp nat_cmp (rdata_of one.content) (rdata_of next.content) ≡ Less) rest × RdataRises rest
 
--- an alias that was found is one CNAME, and a set that was found is not large
+-- a rule was appended where content is one, and else nothing
+pub record IsPushed (said : Content) (old new : List Naptr) : Type 0 where
+  pub rule : (one : Naptr) → said ≡ content.Naptr one → (new ≡ old ++ one ∷ []) × IsRule one
+  pub other : ((one : Naptr) → said ≢ content.Naptr one) → new ≡ old
+
+-- an alias that was found is one CNAME; a set that was found is not large, and its RDATA rises
 abbrev pub IsReadable : Found → Type 0
 IsReadable found.Outside = ⊤
 IsReadable (found.Cut set) = ⊤
 IsReadable (found.Alias set) = (one : Record) × (target : Labels) × (set.now ≡ one ∷ []) × (one.content ≡ content.Cname target)
-IsReadable (found.Set set) = length set.now ≤ 60_000
+IsReadable (found.Set set) = (length set.now ≤ 60_000) × RdataRises set.now
 IsReadable (found.NoSet start) = ⊤
 IsReadable (found.NoName start) = ⊤

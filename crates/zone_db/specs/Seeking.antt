@@ -4,7 +4,7 @@ use Rattle.dns_name.specs.Name.{AreSame, IsBelow}
 use Rattle.naptr_data.specs.Zones.{Labels, Exists, Encloses, IsSource}
 use Rattle.dns_wire.specs.Kinds.{ns, cname}
 use Rattle.dns_wire.specs.declared.record.Record.{Record}
-use Rattle.zone_build.specs.Zone.{Zone, IsSet}
+use Rattle.zone_build.specs.Zone.{Zone, IsIn, IsSet}
 use Rattle.zone_build.specs.Plain.{plain_of}
 use Rattle.zone_db.specs.LookUp.{IsCut, IsHighestCut, HasKind, Answers, MeetsAlias, IsAnswered, IsStart}
 use Rattle.zone_db.specs.declared.found.Found.{Found}
@@ -19,6 +19,11 @@ IsClosest zone name closest =
 -- an NS record below the apex and at or above a name
 abbrev pub CutsOff : Labels → Labels → Record → Type 0
 CutsOff apex name one = (one.kind ≡ ns) × ¬ AreSame one.owner apex × IsBelow name one.owner
+
+-- an NS record at a name, where there is one
+abbrev pub IsNsAt : List Record → Labels → Option Record → Type 0
+IsNsAt records name None = (one : Record) → Contains records one → ¬ IsIn name ns one
+IsNsAt records name (Some one) = Contains records one × IsIn name ns one
 
 -- the highest of some records that cut a name off, where one does
 abbrev pub IsHighest : List Record → Labels → Labels → Option Record → Type 0

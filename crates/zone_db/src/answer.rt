@@ -1,13 +1,11 @@
 //! What is answered from the records at a name.
-ghost use Rattle.std.specs.Prelude.{◌≡◌, ◌↔◌, IsTrue};
+ghost use Rattle.std.specs.Prelude.{◌↔◌, IsTrue};
 ghost use Rattle.zone_db.specs.LookUp.{Answers};
-ghost use Rattle.zone_build.specs.Building.{least_of};
 ghost use Rattle.zone_db.specs.Seeking.{IsLeastKind, IsAnswer};
 
 use crate::found::Found;
 use crate::start::start_of;
 use dns_name::Name;
-use dns_wire::Record;
 use zone_build::Zone;
 
 /// An alias, the set that was asked for, or the SOA where there is none.
@@ -18,7 +16,7 @@ pub(crate) fn answer<'a>(zone: &'a Zone, source: &Name, asked: u16) -> Found<'a>
     if !answers(asked, 5) && aliases.len() > 0 {
         return Found::Alias(aliases);
     }
-    match least_kind(zone.records(), source, asked) {
+    match least_kind(zone, source, asked) {
         Some(kind) => Found::Set(zone.set(source, kind)),
         None => Found::NoSet(start_of(zone)),
     }
@@ -32,24 +30,15 @@ fn answers(asked: u16, kind: u16) -> bool
 }
 
 // The least kind of the records at the name that answer the question.
-fn least_kind(records: &[Record], source: &Name, asked: u16) -> Option<u16>
-    ensures { IsLeastKind records.now source.now asked result }
+fn least_kind(zone: &Zone, source: &Name, asked: u16) -> Option<u16>
+    ensures { IsLeastKind zone.now.records source.now asked result }
 {
-    let mut least = None;
-    for one in records {
-        if answers(asked, one.kind) && one.owner.same(source) {
-            least = lesser_kind(least, one.kind);
-        }
+    if asked == 255 {
+        return zone.least_kind(source);
     }
-    least
-}
-
-// The lesser of the two.
-fn lesser_kind(least: Option<u16>, kind: u16) -> Option<u16>
-    ensures { result ≡ Some (least_of least kind) }
-{
-    match least {
-        Some(known) if known < kind => Some(known),
-        _ => Some(kind),
+    let set = zone.set(source, asked);
+    if set.len() > 0 {
+        return Some(asked);
     }
+    None
 }

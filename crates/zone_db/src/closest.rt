@@ -1,31 +1,19 @@
 //! Which names exist in a zone, and the closest encloser of one that does not (RFC 4592, 2.2.2 and 3.3.1).
-ghost use Rattle.std.specs.Prelude.{◌≡◌, ◌↔◌, ◌∷◌, IsTrue, Contains};
+ghost use Rattle.std.specs.Prelude.{◌≡◌, ◌↔◌, ◌∷◌, IsTrue};
 ghost use Rattle.dns_name.specs.Name.{IsBelow, star};
 ghost use Rattle.naptr_data.specs.Zones.{Exists, Encloses};
-ghost use Rattle.dns_wire.specs.declared.record.Record.{Record};
 ghost use Rattle.zone_build.specs.Plain.{plain_of};
 ghost use Rattle.zone_db.specs.Seeking.{IsClosest};
 
 use dns_name::Name;
-use dns_wire::Record;
 use zone_build::Zone;
 
 /// Whether the name is the apex, or a record stands at or below it.
 pub(crate) fn exists(zone: &Zone, name: &Name) -> bool
+    requires { IsBelow name.now zone.now.apex }
     ensures { IsTrue result ↔ Exists (plain_of zone.now) name.now }
 {
-    name.same(&zone.apex()) || has_record_below(zone.records(), name)
-}
-
-fn has_record_below(records: &[Record], name: &Name) -> bool
-    ensures { IsTrue result ↔ ((one : Record) × Contains records.now one × IsBelow one.owner name.now) }
-{
-    for one in records {
-        if one.owner.is_below(name) {
-            return true;
-        }
-    }
-    false
+    name.same(&zone.apex()) || zone.has_below(name)
 }
 
 /// The longest existing name at or above one that is at or below the apex.

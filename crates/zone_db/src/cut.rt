@@ -1,45 +1,36 @@
 //! Cuts of a zone (RFC 1034, 4.2.1).
-ghost use Rattle.std.specs.Prelude.{◌↔◌, ◌++◌, ◌∷◌, [], List, IsTrue};
 ghost use Rattle.std.specs.Option.{option_map};
-ghost use Rattle.dns_wire.specs.declared.record.Record.{Record};
-ghost use Rattle.zone_db.specs.Seeking.{CutsOff, IsHighest};
+ghost use Rattle.dns_name.specs.Name.{IsBelow};
+ghost use Rattle.zone_db.specs.Seeking.{IsHighest, IsNsAt};
 
 use dns_name::Name;
 use dns_wire::Record;
+use zone_build::Zone;
 
 /// An NS record of the highest cut at or above the name.
-pub(crate) fn highest_cut<'a>(records: &'a [Record], apex: &Name, name: &Name) -> Option<&'a Record>
-    ensures { IsHighest records.now apex.now name.now (option_map (λ r. r.now) result) }
+pub(crate) fn highest_cut<'a>(zone: &'a Zone, name: &Name) -> Option<&'a Record>
+    requires { IsBelow name.now zone.now.apex }
+    ensures { IsHighest zone.now.records zone.now.apex name.now (option_map (λ r. r.now) result) }
 {
-    let mut best = None;
-    for one in records {
-        best = higher(best, one, apex, name);
+    if name.same(&zone.apex()) {
+        return None;
     }
-    best
-}
-
-// The higher of the best cut so far and one more record.
-fn higher<'a>(
-    best: Option<&'a Record>,
-    one: &'a Record,
-    apex: &Name,
-    name: &Name,
-) -> Option<&'a Record>
-    ensures { (records : List Record) → IsHighest records apex.now name.now (option_map (λ r. r.now) best.entry)
-        → IsHighest (records ++ one.now ∷ []) apex.now name.now (option_map (λ r. r.now) result) }
-{
-    if !cuts_off(one, apex, name) {
-        return best;
-    }
-    match best {
-        Some(known) if one.owner.is_below(&known.owner) => best,
-        _ => Some(one),
+    match name.parent() {
+        Some(above) => match highest_cut(zone, &above) {
+            Some(cut) => Some(cut),
+            None => ns_at(zone, name),
+        },
+        None => None,
     }
 }
 
-// Whether the record is an NS record below the apex and at or above the name.
-fn cuts_off(one: &Record, apex: &Name, name: &Name) -> bool
-    ensures { IsTrue result ↔ CutsOff apex.now name.now one.now }
+// An NS record at the name.
+fn ns_at<'a>(zone: &'a Zone, name: &Name) -> Option<&'a Record>
+    ensures { IsNsAt zone.now.records name.now (option_map (λ r. r.now) result) }
 {
-    one.kind == 2 && !one.owner.same(apex) && name.is_below(&one.owner)
+    let set = zone.set(name, 2);
+    if set.len() > 0 {
+        return Some(&set[0]);
+    }
+    None
 }

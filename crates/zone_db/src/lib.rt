@@ -10,7 +10,7 @@ mod fault;
 mod found;
 mod laws;
 mod lookup;
-mod rules;
+mod offer;
 mod set;
 mod source;
 mod start;

@@ -17,8 +17,7 @@ pub(crate) fn found_in<'a>(zone: &'a Zone, name: &Name, asked: u16) -> Found<'a>
     requires { IsBelow name.now zone.now.apex }
     ensures { IsFoundIn zone.now name.now asked result }
 {
-    let apex = zone.apex();
-    match highest_cut(zone.records(), &apex, name) {
+    match highest_cut(zone, name) {
         Some(cut) => Found::Cut(zone.set(&cut.owner, 2)),
         None => found_at(zone, name, &source_of(zone, name), asked),
     }
@@ -38,6 +37,7 @@ fn source_of(zone: &Zone, name: &Name) -> Name
 
 // What is found for a name that no cut is at or above, at its source.
 fn found_at<'a>(zone: &'a Zone, name: &Name, source: &Name, asked: u16) -> Found<'a>
+    requires inside { IsBelow name.now zone.now.apex }
     requires uncut { IsUncut zone.now name.now }
     requires source { IsSource (plain_of zone.now) name.now source.now }
     ensures { IsFoundIn zone.now name.now asked result }

@@ -1,5 +1,5 @@
 //! `resolve APP STRING`: the report of a walk (RFC 3402).
-ghost use Rattle.std.specs.Prelude.{◌≡◌, Err, IfOk, IsErrOf};
+ghost use Rattle.std.specs.Prelude.{◌≡◌, ◌≤◌, Err, IfOk, IsErrOf};
 ghost use Rattle.dns_name.specs.Name.{folded_labels};
 ghost use Rattle.ddds_walk.specs.Report.{Answers};
 ghost use Rattle.ddds_walk.specs.Rules.{client_of};
@@ -7,46 +7,46 @@ ghost use Rattle.request_words.specs.Words.{texts_of};
 ghost use Rattle.service_field.specs.Wanted.{wanted_text};
 ghost use Rattle.zone_build.specs.Plain.{told};
 ghost use Rattle.enum_top.specs.Applications.{Asks};
-ghost use Rattle.enum_top.specs.Resolving.{Resolves, client_for, ending_of};
-ghost use Rattle.enum_top.specs.Running.{DoesOnShelf, ReadsShelf, asked_of};
+ghost use Rattle.enum_top.specs.Handling.{ReadsShelf};
+ghost use Rattle.enum_top.specs.Resolving.{Resolves, client_for, ending_of, files_of};
+ghost use Rattle.enum_top.specs.Running.{DoesOnShelf, inquiry_of};
+ghost use Rattle.enum_top.specs.Walking.{WalksOnce};
 ghost use Rattle.enum_top.specs.declared.cause.Cause.{Cause};
-ghost use Rattle.enum_top.specs.declared.refusal.Refusal.TheVariants as refusal;
 
-use crate::asked::{Asked, read_asked};
-use crate::refusal::Refusal;
-use crate::status::{Ending, Object, Printed};
+use crate::inquiry::{Inquiry, read_inquiry};
+use crate::objects::Object;
+use crate::status::{Ending, Printed};
+use crate::why::Why;
 use crate::zones::read_zones;
 use ddds_walk::{End, Report, WalkFault, needed_bound, walk};
 use enum_app::EnumApp;
 use enum_base::{MemoryFault, Shelf};
+use naptr_data::RuleSource;
 use report_text::print_report;
-use request_words::AppName;
+use request_words::{AppName, Origin, Resolution};
 use service_field::DddsApp;
 use snaptr_app::{SnaptrApp, UnaptrApp};
 use std::alloc::Global;
 use zone_db::{ZoneSet, ZoneSource};
 
-/// Prints the report of the string that is the word at `string`, over the files whose names are the words at `places`.
+/// Prints the report of what is asked, over the zones of the files.
 pub(crate) fn resolve_text<S: Shelf>(
     alloc: Global,
     words: &[String],
-    app: AppName,
-    string: usize,
-    want: Option<usize>,
-    apex: Option<usize>,
-    places: &[usize],
+    asked: &Resolution,
     shelf: &mut S,
-) -> Result<Printed, Refusal>
-    ensures does { DoesOnShelf (Resolves (S.state shelf.old).files (texts_of words.now) app string want apex places.now) result }
-    ensures early { (cause : Cause) → Asks (texts_of words.now) app string want apex (Err cause) → IsErrOf result (refusal.IllFormed cause) }
-    ensures shelf { ReadsShelf (S.state shelf.old) (S.state shelf.new) (IsErrOf result (refusal.Outside Object.Shelf)) }
+) -> Result<Printed, Why>
+    ensures does { DoesOnShelf (Resolves (S.state shelf.old).files (texts_of words.now) asked.now) result }
+    ensures early { (cause : Cause) → Asks (texts_of words.now) asked.now.app asked.now.string asked.now.want asked.now.apex (Err cause)
+        → IsErrOf result (Why.Judged cause) }
+    ensures shelf { ReadsShelf (S.state shelf.old) (S.state shelf.new) (IsErrOf result (Why.Outside Object.Shelf)) }
 {
-    let asked = match read_asked(words, app, string, want, apex) {
-        Ok(asked) => asked,
-        Err(cause) => return Err(Refusal::IllFormed(cause)),
+    let inquiry = match read_inquiry(words, asked) {
+        Ok(inquiry) => inquiry,
+        Err(cause) => return Err(Why::Judged(cause)),
     };
-    let zones = read_zones(alloc, words, places, shelf)?;
-    let report = report_of(alloc, app, &asked, &zones)?;
+    let zones = read_zones(alloc, words, files_of(&asked.origin), shelf)?;
+    let report = report_over(alloc, asked.app, &inquiry, &zones)?;
     let text = print_report(alloc, &report)?;
     Ok(Printed {
         ending: ending_of(&report),
@@ -54,48 +54,74 @@ pub(crate) fn resolve_text<S: Shelf>(
     })
 }
 
-// The report of what an application asks of zones. Out of memory is its one fault.
-fn report_of(
-    alloc: Global,
-    app: AppName,
-    asked: &Asked<'_>,
-    zones: &ZoneSet,
-) -> Result<Report, MemoryFault>
-    ensures { IfOk result (Answers (client_for app (asked_of asked.now)) (told zones.now) (folded_labels asked.now.key)) }
+// The places of the names of the files.
+fn files_of(origin: &Origin) -> &[usize]
+    ensures { result.now ≡ files_of origin.now }
 {
-    match app {
-        AppName::Enum => walk_as(alloc, &EnumApp, asked, zones),
-        AppName::Snaptr => walk_as(alloc, &SnaptrApp, asked, zones),
-        AppName::Unaptr => walk_as(alloc, &UnaptrApp, asked, zones),
+    match origin {
+        Origin::Files(places) => places.as_slice(),
     }
 }
 
-fn walk_as<P: DddsApp>(
+// The report of what an application asks of zones. Out of memory is its one fault.
+fn report_over(
     alloc: Global,
-    app: &P,
-    asked: &Asked<'_>,
+    app: AppName,
+    inquiry: &Inquiry<'_>,
     zones: &ZoneSet,
 ) -> Result<Report, MemoryFault>
-    ensures { IfOk result (Answers (client_of (P.meaning app.now) (wanted_text asked.now.wanted) asked.now.string) (told zones.now) (folded_labels asked.now.key)) }
+    ensures { IfOk result (Answers (client_for app (inquiry_of inquiry.now)) (told zones.now) (folded_labels inquiry.now.key)) }
 {
     // No more domains than this are needed.
     let limit = zones.rules_and_aliases() + 1;
     let mut source = ZoneSource::new(zones);
     needed_bound();
-    match walk(
-        alloc,
-        app,
-        asked.wanted,
-        &asked.string,
-        &asked.key,
-        &mut source,
-        limit,
-    ) {
+    match report_of(alloc, app, inquiry, &mut source, limit) {
         Ok(report) => Ok(report),
         Err(WalkFault::Memory) => Err(MemoryFault),
         Err(WalkFault::Limit { .. }) => unreachable!(),
         Err(WalkFault::Trouble) => unreachable!(),
     }
+}
+
+// The report of what an application asks of a source, by one walk.
+fn report_of<R: RuleSource>(
+    alloc: Global,
+    app: AppName,
+    inquiry: &Inquiry<'_>,
+    source: &mut R,
+    limit: u32,
+) -> Result<Report, WalkFault>
+    requires { 1 ≤ limit }
+    ensures { WalksOnce (client_for app (inquiry_of inquiry.now)) (folded_labels inquiry.now.key) limit (R.state source.old) (R.state source.new) result }
+{
+    match app {
+        AppName::Enum => walk_as(alloc, &EnumApp, inquiry, source, limit),
+        AppName::Snaptr => walk_as(alloc, &SnaptrApp, inquiry, source, limit),
+        AppName::Unaptr => walk_as(alloc, &UnaptrApp, inquiry, source, limit),
+    }
+}
+
+fn walk_as<P: DddsApp, R: RuleSource>(
+    alloc: Global,
+    app: &P,
+    inquiry: &Inquiry<'_>,
+    source: &mut R,
+    limit: u32,
+) -> Result<Report, WalkFault>
+    requires { 1 ≤ limit }
+    ensures { WalksOnce (client_of (P.meaning app.now) (wanted_text inquiry.now.wanted) inquiry.now.string) (folded_labels inquiry.now.key) limit
+        (R.state source.old) (R.state source.new) result }
+{
+    walk(
+        alloc,
+        app,
+        inquiry.wanted,
+        &inquiry.string,
+        &inquiry.key,
+        source,
+        limit,
+    )
 }
 
 // Whether a report has an end, none, or is a loop.

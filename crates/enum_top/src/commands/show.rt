@@ -1,16 +1,14 @@
 //! `show`: the message that the input spells in hexadecimal (RFC 1035, section 4).
-ghost use Rattle.std.specs.Prelude.{◌≡◌, ◌+◌, IfOk, IsErrOf};
-ghost use Rattle.enum_base.specs.Causes.{Blames};
-ghost use Rattle.enum_base.specs.Loading.{AreTaken};
-ghost use Rattle.enum_top.specs.Inputs.{most_input};
+ghost use Rattle.std.specs.Prelude.{◌≡◌, IfOk, IsErrOf};
+ghost use Rattle.enum_top.specs.Handling.{ReadsInput};
 ghost use Rattle.enum_top.specs.Running.{DoesAlone, DoesOnInput};
 ghost use Rattle.enum_top.specs.Showing.{Digits, Hexes, Messages, Shows, digits_in, is_blank};
-ghost use Rattle.enum_top.specs.declared.refusal.Refusal.TheVariants as refusal;
 
 use crate::cause::Cause;
 use crate::input::read_input;
-use crate::refusal::Refusal;
-use crate::status::{Ending, Object, Printed};
+use crate::objects::Object;
+use crate::status::{Ending, Printed};
+use crate::why::Why;
 use dns_wire::{DecodeFault, Message, decode};
 use enum_base::{Bytes, MemoryFault, Source};
 use hex::FromHexError;
@@ -20,13 +18,11 @@ use std::alloc::Global;
 /// Prints the message that the digits of the input spell. At most 16 MiB and 4,096 bytes of the input are taken.
 ///
 /// # Errors
-/// `IllFormed` where the input is too large, its digits are no bytes, or the bytes no message; `Outside` where the
+/// `Judged` where the input is too large, its digits are no bytes, or the bytes no message; `Outside` where the
 /// input failed, and `Memory`.
-pub(crate) fn show_text<I: Source>(alloc: Global, input: &mut I) -> Result<Printed, Refusal>
+pub(crate) fn show_text<I: Source>(alloc: Global, input: &mut I) -> Result<Printed, Why>
     ensures does { DoesOnInput (Shows (I.state input.old).left) result }
-    ensures input { Blames (I.state input.old).faults (I.state input.new).faults (IsErrOf result (refusal.Outside Object.Input)) }
-    ensures taken { ¬ IsErrOf result (refusal.Outside Object.Input)
-        → AreTaken (most_input + 4096) (I.state input.old).left (I.state input.new).left }
+    ensures input { ReadsInput (I.state input.old) (I.state input.new) (IsErrOf result (Why.Outside Object.Input)) }
 {
     let text = read_input(alloc, input)?;
     let bytes = read_hex(alloc, &text)?;
@@ -39,7 +35,7 @@ pub(crate) fn show_text<I: Source>(alloc: Global, input: &mut I) -> Result<Print
 }
 
 // The bytes that the digits of a text spell.
-fn read_hex(alloc: Global, text: &Bytes) -> Result<Bytes, Refusal>
+fn read_hex(alloc: Global, text: &Bytes) -> Result<Bytes, Why>
     ensures { DoesAlone (Hexes text.now) result }
 {
     let digits = digits_of(alloc, text.as_slice())?;
@@ -65,13 +61,13 @@ fn is_blank(byte: u8) -> bool
 }
 
 // The bytes that digits spell.
-fn read_digits(alloc: Global, digits: &[u8]) -> Result<Bytes, Refusal>
+fn read_digits(alloc: Global, digits: &[u8]) -> Result<Bytes, Why>
     ensures { DoesAlone (Digits digits.now) result }
 {
     let spelled = match hex::decode(alloc, digits) {
         Ok(spelled) => spelled,
-        Err(FromHexError::OutOfMemory) => return Err(Refusal::Memory),
-        Err(_) => return Err(Refusal::IllFormed(Cause::Hex)),
+        Err(FromHexError::OutOfMemory) => return Err(Why::Memory),
+        Err(_) => return Err(Why::Judged(Cause::Hex)),
     };
     let mut bytes = Bytes::new(alloc);
     bytes.push_slice(spelled.as_slice())?;
@@ -79,12 +75,12 @@ fn read_digits(alloc: Global, digits: &[u8]) -> Result<Bytes, Refusal>
 }
 
 // The message that bytes spell.
-fn read_message(alloc: Global, bytes: &Bytes) -> Result<Message, Refusal>
+fn read_message(alloc: Global, bytes: &Bytes) -> Result<Message, Why>
     ensures { DoesAlone (Messages bytes.now) result }
 {
     match decode(alloc, bytes.as_slice()) {
         Ok(message) => Ok(message),
-        Err(DecodeFault::Memory) => Err(Refusal::Memory),
-        Err(fault) => Err(Refusal::IllFormed(Cause::Message(fault))),
+        Err(DecodeFault::Memory) => Err(Why::Memory),
+        Err(fault) => Err(Why::Judged(Cause::Message(fault))),
     }
 }

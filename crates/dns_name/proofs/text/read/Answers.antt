@@ -25,12 +25,14 @@ loop-at-init c =
 pub returns-in-Broken : goal.returns-in-Broken
 returns-in-Broken c =
     let text = c.args.text.now in
-    sym (read-broken (while_fits c.loop-at.fits c.loop-at.name) c.loop-at.start c.loop-at.label c.loop-at.at text c.loop-at-test.true (piece_met text c.loop-at.at _ Broken c.first.ensures.value c.in-Broken.is)) ∙ c.loop-at.invariant.same ∙ sym (from_start text _ _ c.eq.ensures c.as_slice.ensures c.if-eq.false)
+    sym (read-broken (while_fits c.loop-at.fits c.loop-at.name) c.loop-at.start c.loop-at.label c.loop-at.at text c.loop-at-test.true (piece_met text c.loop-at.at _ Broken c.first.ensures.value c.in-Broken.is))
+    ∙ c.loop-at.invariant.same ∙ sym (from_start text _ _ c.eq.ensures c.as_slice.ensures c.if-eq.false)
 
 pub returns-in-Dot : goal.returns-in-Dot
 returns-in-Dot c =
     let text = c.args.text.now in
-    sym (read-empty (while_fits c.loop-at.fits c.loop-at.name) c.loop-at.start c.loop-at.label c.loop-at.at text c.loop-at-test.true (piece_met text c.loop-at.at _ Dot c.first.ensures.value c.in-Dot.is) (c.is_empty.ensures.0 c.if-is_empty.true)) ∙ c.loop-at.invariant.same ∙ sym (from_start text _ _ c.eq.ensures c.as_slice.ensures c.if-eq.false)
+    sym (read-empty (while_fits c.loop-at.fits c.loop-at.name) c.loop-at.start c.loop-at.label c.loop-at.at text c.loop-at-test.true (piece_met text c.loop-at.at _ Dot c.first.ensures.value c.in-Dot.is) (c.is_empty.ensures.0 c.if-is_empty.true))
+    ∙ c.loop-at.invariant.same ∙ sym (from_start text _ _ c.eq.ensures c.as_slice.ensures c.if-eq.false)
 
 pub loop-at-preserved-in-Dot-2 : goal.loop-at-preserved-in-Dot-2
 loop-at-preserved-in-Dot-2 c =
@@ -50,7 +52,8 @@ loop-at-preserved-in-Dot-2 c =
 pub returns-in-Byte : goal.returns-in-Byte
 returns-in-Byte c =
     let text = c.args.text.now in
-    sym (read-full (while_fits c.loop-at.fits c.loop-at.name) c.loop-at.start c.loop-at.label c.loop-at.at text c.in-Byte.field-0 c.in-Byte.field-1 c.loop-at-test.true (piece_met text c.loop-at.at _ (Byte c.in-Byte.field-0 c.in-Byte.field-1) c.first.ensures.value c.in-Byte.is) (c.is_full.ensures.0 c.if-is_full.true)) ∙ c.loop-at.invariant.same ∙ sym (from_start text _ _ c.eq.ensures c.as_slice.ensures c.if-eq.false)
+    sym (read-full (while_fits c.loop-at.fits c.loop-at.name) c.loop-at.start c.loop-at.label c.loop-at.at text c.in-Byte.field-0 c.in-Byte.field-1 c.loop-at-test.true (piece_met text c.loop-at.at _ (Byte c.in-Byte.field-0 c.in-Byte.field-1) c.first.ensures.value c.in-Byte.is) (c.is_full.ensures.0 c.if-is_full.true))
+    ∙ c.loop-at.invariant.same ∙ sym (from_start text _ _ c.eq.ensures c.as_slice.ensures c.if-eq.false)
 
 pub loop-at-preserved : goal.loop-at-preserved
 loop-at-preserved c =
@@ -71,14 +74,18 @@ pub returns-then-not-is_empty : goal.returns-then-not-is_empty
 returns-then-not-is_empty c =
     let text = c.args.text.now in
     let some : 0 < length c.loop-at.label = some_unless c.loop-at.label _ c.is_empty-2.ensures.1 c.if-not-is_empty.true in
-    ap (λ l. Ok (l, false)) c.extended-fits-then-not-is_empty.ensures ∙ sym (read-last (while_fits c.loop-at.fits c.loop-at.name) c.loop-at.start c.loop-at.label c.loop-at.at text c.loop-at-test.false some) ∙ c.loop-at.invariant.same ∙ sym (from_start text _ _ c.eq.ensures c.as_slice.ensures c.if-eq.false)
+    ap (λ l. Ok (l, false)) c.extended-fits-then-not-is_empty.ensures
+    ∙ sym (read-last (while_fits c.loop-at.fits c.loop-at.name) c.loop-at.start c.loop-at.label c.loop-at.at text c.loop-at-test.false some)
+    ∙ c.loop-at.invariant.same ∙ sym (from_start text _ _ c.eq.ensures c.as_slice.ensures c.if-eq.false)
 
 pub returns-then-start-eq0 : goal.returns-then-start-eq0
 returns-then-start-eq0 c =
     let text = c.args.text.now in
-    sym (read-none (while_fits c.loop-at.fits c.loop-at.name) c.loop-at.start c.loop-at.label c.loop-at.at text c.loop-at-test.false (c.is_empty-2.ensures.0 c.if-not-is_empty.false) c.if-start-eq0.true) ∙ c.loop-at.invariant.same ∙ sym (from_start text _ _ c.eq.ensures c.as_slice.ensures c.if-eq.false)
+    sym (read-none (while_fits c.loop-at.fits c.loop-at.name) c.loop-at.start c.loop-at.label c.loop-at.at text c.loop-at-test.false (c.is_empty-2.ensures.0 c.if-not-is_empty.false) c.if-start-eq0.true)
+    ∙ c.loop-at.invariant.same ∙ sym (from_start text _ _ c.eq.ensures c.as_slice.ensures c.if-eq.false)
 
 pub returns-else-start-eq0 : goal.returns-else-start-eq0
 returns-else-start-eq0 c =
     let text = c.args.text.now in
-    sym (read-whole (while_fits c.loop-at.fits c.loop-at.name) c.loop-at.start c.loop-at.label c.loop-at.at text c.loop-at-test.false (c.is_empty-2.ensures.0 c.if-not-is_empty.false) c.if-start-eq0.false) ∙ c.loop-at.invariant.same ∙ sym (from_start text _ _ c.eq.ensures c.as_slice.ensures c.if-eq.false)
+    sym (read-whole (while_fits c.loop-at.fits c.loop-at.name) c.loop-at.start c.loop-at.label c.loop-at.at text c.loop-at-test.false (c.is_empty-2.ensures.0 c.if-not-is_empty.false) c.if-start-eq0.false)
+    ∙ c.loop-at.invariant.same ∙ sym (from_start text _ _ c.eq.ensures c.as_slice.ensures c.if-eq.false)

@@ -16,7 +16,8 @@ pub returns-in-Ok-Root : goal.returns-in-Ok-Root
 returns-in-Ok-Root c = running-root c.args.bytes.now c.args.at c.labels.here c.labels.invariant (rw c.in-Ok-Root.field-0-is at c.in-Ok-Root.ensures)
 
 pub returns-in-Ok-Pointer : goal.returns-in-Ok-Pointer
-returns-in-Ok-Pointer c = running-pointer c.args.bytes.now c.args.at c.labels.here c.in-Ok-Pointer.field-0-0 c.labels.invariant (rw c.in-Ok-Pointer.field-0-is at c.in-Ok-Pointer.ensures)
+returns-in-Ok-Pointer c =
+    running-pointer c.args.bytes.now c.args.at c.labels.here c.in-Ok-Pointer.field-0-0 c.labels.invariant (rw c.in-Ok-Pointer.field-0-is at c.in-Ok-Pointer.ensures)
 
 pub returns-in-Err : goal.returns-in-Err
 returns-in-Err c = running-fault c.args.bytes.now c.args.at c.labels.here _ _ c.labels.invariant c.in-Err.ensures c.cut_place.ensures

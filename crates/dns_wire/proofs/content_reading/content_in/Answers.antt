@@ -1,4 +1,3 @@
-use Rattle.std.proofs.Common.{refl}
 use Rattle.rdata_field.specs.Fields.{NameIn, AddressIn}
 use Rattle.naptr_rule.specs.Fields.{RuleIn}
 use Rattle.dns_wire.specs.Contents.{SoaIn, LastIn, TextsIn, ContentIn}
@@ -80,12 +79,12 @@ pub returns-in_ok-read_srv-in-Srv : goal.returns-in_ok-read_srv-in-Srv
 returns-in_ok-read_srv-in-Srv c =
     rw c.in-Srv.is (told_ok of_rdata (ContentIn form.Srv c.args.message.now c.args.from c.args.to) c.in_ok-read_srv-in-Srv.field-0 c.in_ok-read_srv-in-Srv.ensures)
 
-pub returns-in_err-read_in_by-in-Naptr : goal.returns-in_err-read_in_by-in-Naptr
-returns-in_err-read_in_by-in-Naptr c =
-    let fault = c.in_err-read_in_by-in-Naptr.field-0.0 in
-    rw c.in-Naptr.is (made_err of_rdata content.Naptr (RuleIn c.args.message.now c.args.from c.args.to) fault _ ((c.in_err-read_in_by-in-Naptr.ensures.fault fault).0 refl) c.from_residual-in_err-read_in_by-in-Naptr.ensures.1)
+pub returns-in_err-rule_in-in-Naptr : goal.returns-in_err-rule_in-in-Naptr
+returns-in_err-rule_in-in-Naptr c =
+    let fault = c.in_err-rule_in-in-Naptr.field-0.0 in
+    rw c.in-Naptr.is (made_err of_rdata content.Naptr (RuleIn c.args.message.now c.args.from c.args.to) fault _ c.in_err-rule_in-in-Naptr.ensures c.from_residual-in_err-rule_in-in-Naptr.ensures.1)
 
-pub returns-in_ok-read_in_by-in-Naptr : goal.returns-in_ok-read_in_by-in-Naptr
-returns-in_ok-read_in_by-in-Naptr c =
-    let rule = c.in_ok-read_in_by-in-Naptr.field-0 in
-    rw c.in-Naptr.is (made_ok of_rdata content.Naptr (RuleIn c.args.message.now c.args.from c.args.to) rule ((c.in_ok-read_in_by-in-Naptr.ensures.rule rule).0 refl))
+pub returns-in_ok-rule_in-in-Naptr : goal.returns-in_ok-rule_in-in-Naptr
+returns-in_ok-rule_in-in-Naptr c =
+    let rule = c.in_ok-rule_in-in-Naptr.field-0 in
+    rw c.in-Naptr.is (made_ok of_rdata content.Naptr (RuleIn c.args.message.now c.args.from c.args.to) rule c.in_ok-rule_in-in-Naptr.ensures)

@@ -1,5 +1,5 @@
 use Rattle.std.proofs.Common.{rules}
-use Rattle.dns_wire.proofs.MessageStands.{reads_back}
+use Rattle.dns_wire.proofs.MessageStandLemmas.{reads_back}
 use Rattle.dns_wire.proofs.encoding.encode.Goals as goal
 
 pub returns-clause-spells : goal.returns-clause-spells

@@ -1,5 +1,4 @@
-use Rattle.enum_top.proofs.RequestLaws.{early_answer}
 use Rattle.enum_top.proofs.laws.early_verdict.Goals as goal
 
 pub returns : goal.returns
-returns c = early_answer
+returns c = λ told words asked cause broken. (c.sound_work.ensures words asked).early told cause broken

@@ -1,33 +1,29 @@
-use Rattle.enum_top.proofs.RunLemmas.{ends_usage, ends_early, ends_printed, ends_ill_formed, ends_answered, ends_always, ends_kept, ends_cut, ends_line}
+use Rattle.std.proofs.Common.{sym}
+use Rattle.enum_top.specs.declared.why.Why.TheVariants.{Judged}
+use Rattle.enum_top.proofs.RunLemmas.{calm_objects, ends_always, ends_answered}
 use Rattle.enum_top.proofs.top.run.Goals as goal
 
 pub returns-clause-usage : goal.returns-clause-usage
-returns-clause-usage g c = ends_usage _ _ _ _ _ _ _ c.run_inner.ensures.ends
+returns-clause-usage g c = (c.run_inner.ensures.runs.usage, c.run_inner.ensures.runs.no_request)
 
 pub returns-clause-early : goal.returns-clause-early
-returns-clause-early g c = ends_early _ _ _ _ _ _ _ c.run_inner.ensures.ends
-
-pub returns-clause-printed : goal.returns-clause-printed
-returns-clause-printed g c = ends_printed _ _ _ _ _ _ _ c.run_inner.ensures.ends
-
-pub returns-clause-ill_formed : goal.returns-clause-ill_formed
-returns-clause-ill_formed g c = ends_ill_formed _ _ _ _ _ _ _ c.run_inner.ensures.ends
+returns-clause-early g c =
+    λ asked cause means broken. let is = c.run_inner.ensures.runs.early asked cause means broken in (is, c.run_inner.ensures.line (Judged cause) is)
 
 pub returns-clause-answered : goal.returns-clause-answered
 returns-clause-answered g c =
-    λ request means calm_shelf calm_input calm_output.
-    ends_answered _ _ _ _ _ _ _ c.run_inner.ensures.ends request means (λ e. calm_shelf (c.run_inner.ensures.shelf.blamed.only e)) (λ e. calm_input (c.run_inner.ensures.input.only e)) (λ e. calm_output (c.run_inner.ensures.output.only e))
+    let done = c.run_inner.ensures.objects in
+    rw (c.shelf-1.given.1 (sym done.same_shelf), c.input-1.given.1 (sym done.same_input), c.out-1.given.1 (sym done.same_out))
+    (λ asked means calm_shelf calm_input calm_out.
+    ends_answered _ _ _ _ _ _ _ c.run_inner.ensures.runs c.run_inner.ensures.line asked means
+    (calm_objects _ _ _ _ _ _ _ _ calm_shelf calm_input calm_out done.shelf.blamed done.input.blamed done.output)
+    (λ e. calm_out (done.output.only e)))
 
 pub returns-clause-always : goal.returns-clause-always
 returns-clause-always g c =
-    λ request verdict means seen h calm_shelf calm_input calm_output.
-    ends_always _ _ _ _ _ _ _ c.run_inner.ensures.ends c.one_verdict.ensures request verdict means seen h (λ e. calm_shelf (c.run_inner.ensures.shelf.blamed.only e)) (λ e. calm_input (c.run_inner.ensures.input.only e)) (λ e. calm_output (c.run_inner.ensures.output.only e))
-
-pub returns-clause-kept : goal.returns-clause-kept
-returns-clause-kept g c = ends_kept _ _ _ _ _ _ _ c.run_inner.ensures.ends
-
-pub returns-clause-cut : goal.returns-clause-cut
-returns-clause-cut g c = ends_cut _ _ _ _ _ _ _ c.run_inner.ensures.ends
-
-pub returns-clause-line : goal.returns-clause-line
-returns-clause-line g c = ends_line _ _ _ _ _ _ _ c.run_inner.ensures.ends
+    let done = c.run_inner.ensures.objects in
+    rw (c.shelf-1.given.1 (sym done.same_shelf), c.input-1.given.1 (sym done.same_input), c.out-1.given.1 (sym done.same_out))
+    (λ asked verdict means seen comes calm_shelf calm_input calm_out.
+    ends_always _ _ _ _ _ _ _ c.run_inner.ensures.runs c.run_inner.ensures.line asked means
+    (calm_objects _ _ _ _ _ _ _ _ calm_shelf calm_input calm_out done.shelf.blamed done.input.blamed done.output)
+    (λ e. calm_out (done.output.only e)) c.one_verdict.ensures verdict seen comes)

@@ -23,7 +23,9 @@ returns-then-count-eq0-clause-taken g c =
 pub returns-in-Err-feed-clause-does : goal.returns-in-Err-feed-clause-does
 returns-in-Err-feed-clause-does g c =
     text_refused c.args.place c.in-Err-feed.fault _ c.refusal_of.ensures
-    (λ known. broken_left c.broken_stays_broken.ensures _ _ c.args.place c.pieces.reader.text _ c.pieces.reader.origin _ c.in-Err-feed.fault c.pieces.invariant.parts c.in-Ok.ensures.given c.pieces.invariant.origin (c.in-Err-feed.ensures.broken c.pieces.invariant.unbroken known))
+    (λ known. broken_left c.broken_stays_broken.ensures _ _ c.args.place c.pieces.reader.text _
+    c.pieces.reader.origin _ c.in-Err-feed.fault c.pieces.invariant.parts c.in-Ok.ensures.given
+    c.pieces.invariant.origin (c.in-Err-feed.ensures.broken c.pieces.invariant.unbroken known))
 
 pub returns-in-Err-feed-clause-taken : goal.returns-in-Err-feed-clause-taken
 returns-in-Err-feed-clause-taken g c =
@@ -35,4 +37,6 @@ returns-in-Err-feed-clause-taken g c =
 
 pub pieces-preserved : goal.pieces-preserved
 pieces-preserved g c =
-    fed_more _ _ _ c.pieces.reader _ _ c.in-Ok.count c.pieces.invariant c.in_default.ensures.fed c.in_default.ensures.within c.in-Ok.ensures.given c.in-Ok.ensures.left c.in-Ok.ensures.files c.in-Ok.ensures.cause.kept
+    fed_more _ _ _ c.pieces.reader _ _ c.in-Ok.count c.pieces.invariant c.in_default.ensures.fed
+    c.in_default.ensures.within c.in-Ok.ensures.given c.in-Ok.ensures.left c.in-Ok.ensures.files
+    c.in-Ok.ensures.cause.kept

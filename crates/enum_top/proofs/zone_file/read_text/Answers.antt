@@ -6,10 +6,19 @@ use Rattle.enum_top.proofs.zone_file.read_text.Goals as goal
 
 pub returns-in-Ok-true-clause-does : goal.returns-in-Ok-true-clause-does
 returns-in-Ok-true-clause-does g c =
-    let finds = subst (λ (b : Bool). Finds (g.S.Shelf.state c.args.shelf.now).files c.text_at.result.now b) c.in-Ok-true.field-0-test c.in-Ok-true.ensures.found in
-    done_as (λ object used. used) (λ records said. text_of_left _ _ c.args.place _ _ _ c.text_at.ensures finds c.in-Ok-true.ensures.left said) (λ cause stopped. text_of_left _ _ c.args.place _ _ _ c.text_at.ensures finds c.in-Ok-true.ensures.left stopped) c.read_rest.ensures.does
+    let finds =
+    subst (λ (b : Bool). Finds
+    (g.S.Shelf.state c.args.shelf.now).files c.text_at.result.now b) c.in-Ok-true.field-0-test
+    c.in-Ok-true.ensures.found in
+    done_as (λ object used. used)
+    (λ records said. text_of_left _ _ c.args.place _ _ _ c.text_at.ensures finds c.in-Ok-true.ensures.left said)
+    (λ cause stopped. text_of_left _ _ c.args.place _ _ _ c.text_at.ensures finds c.in-Ok-true.ensures.left
+    stopped) c.read_rest.ensures.does
 
 pub returns-in-Ok-false-clause-does : goal.returns-in-Ok-false-clause-does
 returns-in-Ok-false-clause-does g c =
-    let finds = subst (λ (b : Bool). Finds (g.S.Shelf.state c.args.shelf.now).files c.text_at.result.now b) c.in-Ok-false.field-0-test c.in-Ok-false.ensures.found in
+    let finds =
+    subst (λ (b : Bool). Finds
+    (g.S.Shelf.state c.args.shelf.now).files c.text_at.result.now b) c.in-Ok-false.field-0-test
+    c.in-Ok-false.ensures.found in
     ill_formed (text_absent _ _ c.args.place _ c.text_at.ensures finds)

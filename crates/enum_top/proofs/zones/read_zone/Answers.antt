@@ -13,4 +13,5 @@ returns-in_err-records-clause-does g c =
 
 pub returns-clause-does : goal.returns-clause-does
 returns-clause-does g c =
-    done_as (λ object none. absurd none) (λ zone built. goes _ (got c.in_ok-records.ensures.does) built) (λ cause stopped. goes _ (got c.in_ok-records.ensures.does) stopped) c.build_zone.ensures
+    done_as (λ object none. absurd none) (λ zone built. goes _ (got c.in_ok-records.ensures.does) built)
+    (λ cause stopped. goes _ (got c.in_ok-records.ensures.does) stopped) c.build_zone.ensures

@@ -1,6 +1,6 @@
 use Rattle.std.proofs.Common.{◌≡◌, drop}
 use Rattle.request_words.specs.Words.{texts_of}
-use Rattle.enum_top.proofs.FileLoops.{Leads}
+use Rattle.enum_top.proofs.FileLoopLemmas.{Leads}
 use Rattle.enum_top.proofs.zones.read_zones.Given as goal
 
 abbrev pub invariant-loop-place : goal.invariant-loop-place

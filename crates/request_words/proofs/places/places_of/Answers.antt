@@ -12,7 +12,9 @@ pub options-preserved : goal.options-preserved
 options-preserved c = record {
   read = added_more _ _ _ _ _ _ c.in-len2-up.len_at_least c.word-item.is c.with_value-places.ensures ∙ c.options.invariant.read;
   place = let long = c.in-len2-up.len_at_least in let before = c.options.invariant.place in grind (arith, common_steps);
-  count = let long = c.in-len2-up.len_at_least in let before = c.options.invariant.count in let one = value_count c.options.places c.with_value-places.result (string_bytes c.word-item.result) (option_word c.args.option) c.options.at c.with_value-places.ensures in grind (arith, common_steps);
+  count = let long = c.in-len2-up.len_at_least in let before = c.options.invariant.count in let one =
+      value_count c.options.places c.with_value-places.result (string_bytes c.word-item.result)
+      (option_word c.args.option) c.options.at c.with_value-places.ensures in grind (arith, common_steps);
 }
 
 pub returns : goal.returns

@@ -1,5 +1,3 @@
-use Rattle.std.proofs.Common.{Some, None, subst}
-use Rattle.zone_db.specs.Seeking.{IsLeastKind}
 use Rattle.zone_db.proofs.SeekLemmas.{alias_met, alias_lacking, is_answered, is_unanswered}
 use Rattle.zone_db.proofs.answer.answer.Goals as goal
 use Rattle.zone_db.proofs.answer.answer.Goals.{else-not-answers-via-then-not-answers+else-aliases-gt0, else-not-answers-via-else-not-answers}
@@ -15,7 +13,7 @@ returns-in-Some c = (
     | else-not-answers-via-then-not-answers+else-aliases-gt0 w ↦ alias_lacking c.args.zone.now c.args.source.now c.args.asked c.set-aliases.result.now c.set-aliases.ensures w.if-aliases-gt0.false
     | else-not-answers-via-else-not-answers w ↦ λ (here, not). not (c.answers.ensures.0 w.if-not-answers.false)
   ],
-  is_answered c.args.zone.now c.args.source.now c.args.asked c.in-Some.kind (subst (λ xs. IsLeastKind xs c.args.source.now c.args.asked (Some c.in-Some.kind)) c.records.ensures.records c.in-Some.ensures),
+  is_answered c.args.zone.now c.args.source.now c.args.asked c.in-Some.kind c.in-Some.ensures,
   c.set.ensures,
 )
 
@@ -25,6 +23,6 @@ returns-in-None c = (
     | else-not-answers-via-then-not-answers+else-aliases-gt0 w ↦ alias_lacking c.args.zone.now c.args.source.now c.args.asked c.set-aliases.result.now c.set-aliases.ensures w.if-aliases-gt0.false
     | else-not-answers-via-else-not-answers w ↦ λ (here, not). not (c.answers.ensures.0 w.if-not-answers.false)
   ],
-  is_unanswered c.args.zone.now c.args.source.now c.args.asked (subst (λ xs. IsLeastKind xs c.args.source.now c.args.asked None) c.records.ensures.records c.in-None.ensures),
+  is_unanswered c.args.zone.now c.args.source.now c.args.asked c.in-None.ensures,
   c.start_of.ensures,
 )

@@ -1,6 +1,10 @@
 use Rattle.std.proofs.Common.{refl}
+use Rattle.zone_db.proofs.SeekLemmas.{source_inside}
 use Rattle.zone_db.proofs.FoundLemmas.{answered_found}
 use Rattle.zone_db.proofs.lookup.found_at.Goals as goal
+
+pub exists-requires : goal.exists-requires
+exists-requires c = source_inside c.args.zone.now c.args.name.now c.args.source.now c.requires.inside c.requires.source
 
 pub returns-then-exists : goal.returns-then-exists
 returns-then-exists c =

@@ -1,19 +1,22 @@
 use Rattle.std.proofs.Common.{Ok, Err, ap, refl}
 use Rattle.enum_base.specs.Stages.Then.{goes, stops}
-use Rattle.enum_top.specs.declared.refusal.Refusal.TheVariants.{IllFormed}
-use Rattle.enum_top.proofs.AskedLemmas.{no_cause, one_cause}
+use Rattle.enum_top.specs.declared.why.Why.TheVariants.{Judged}
+use Rattle.enum_top.proofs.InquiryLemmas.{no_cause, one_cause}
 use Rattle.enum_top.proofs.DoesLemmas.{done, got, ill_formed, passed, stopped_by}
+use Rattle.enum_top.proofs.FileLoopLemmas.{named_zones}
 use Rattle.enum_top.proofs.commands.resolve.resolve_text.Goals as goal
 
 pub returns-in-Err-clause-does : goal.returns-in-Err-clause-does
 returns-in-Err-clause-does g c = ill_formed (stops _ c.in-Err.ensures refl)
 
 pub returns-in-Err-clause-early : goal.returns-in-Err-clause-early
-returns-in-Err-clause-early g c = λ cause asks. ap (λ x. Err (IllFormed x)) (one_cause _ _ _ _ _ _ cause c.in-Err.ensures asks)
+returns-in-Err-clause-early g c = λ cause asks. ap (λ x. Err (Judged x)) (one_cause _ _ _ _ _ _ cause c.in-Err.ensures asks)
 
 pub returns-in_err-zones-clause-does : goal.returns-in_err-zones-clause-does
 returns-in_err-zones-clause-does g c =
-    passed c.from_residual.ensures.1 (stopped_by (λ object used. used) (λ cause stopped. goes _ c.in-Ok.ensures (stops cause stopped refl)) c.in_err-zones.ensures.does)
+    passed c.from_residual.ensures.1
+    (stopped_by (λ object used. used)
+    (λ cause stopped. goes _ c.in-Ok.ensures (stops cause stopped refl)) (named_zones _ _ _ _ _ c.files_of.ensures c.in_err-zones.ensures.does))
 
 pub returns-in_err-zones-clause-early : goal.returns-in_err-zones-clause-early
 returns-in_err-zones-clause-early g c = λ cause asks. no_cause _ _ _ _ _ _ cause c.in-Ok.ensures asks
@@ -29,4 +32,9 @@ returns-clause-early g c = λ cause asks. no_cause _ _ _ _ _ _ cause c.in-Ok.ens
 
 pub returns-clause-does : goal.returns-clause-does
 returns-clause-does g c =
-    done (goes _ c.in-Ok.ensures (goes _ (got c.in_ok-zones.ensures.does) (c.in_ok-report.report, c.in_ok-report.ensures, λ i. Ok (record { ending = c.ending_of.ensures i; text = c.in_ok-text.ensures i }))))
+    done (goes _ c.in-Ok.ensures
+    (goes _ (got (named_zones _ _ _ _ _ c.files_of.ensures c.in_ok-zones.ensures.does)) (
+      c.in_ok-report.report,
+      c.in_ok-report.ensures,
+      λ i. Ok (record { ending = c.ending_of.ensures i; text = c.in_ok-text.ensures i }),
+    )))

@@ -3,6 +3,7 @@ use Rattle.std.specs.Prelude.{Contains}
 use Rattle.dns_wire.specs.declared.record.Record.{Record}
 use Rattle.zone_build.specs.Zone.{IsCanonical, IsPlain}
 use Rattle.zone_build.specs.Faults.{IsZoneFault}
+use Rattle.zone_build.specs.Indexing.{IsIndex}
 use Rattle.zone_build.specs.Building.{AreApart, IsFirstLarge, IsLastFault, IsPlan}
 use Rattle.zone_build.proofs.PlanLemmas.{plan_apart, plan_made}
 use Rattle.zone_build.proofs.FaultLemmas.{last_is_fault, plan_valid}
@@ -32,12 +33,21 @@ returns-in-Some-clause-fault c =
     let made = plan_made c.args.records c.as_slice.result.now c.into_items.result.items plan.apex plan.keeps.items c.as_slice-2.result.now plan.cut kept c.as_slice.ensures c.into_items.ensures c.as_slice-2.ensures.value c.in-Ok.ensures.ok c.in_ok-kept.ensures in
     last_is_fault c.args.records (record { apex = plan.apex; records = kept }) plan.keeps.items plan.cut c.in-Some.fault made.0 made.1 (subst (λ xs. IsLastFault xs plan.cut c.in-Some.fault) c.as_slice-3.ensures.value c.in-Some.ensures.some)
 
+pub index_of-requires : goal.index_of-requires
+index_of-requires c =
+    let plan = c.in-Ok.plan in
+    let made = plan_made c.args.records c.as_slice.result.now c.into_items.result.items plan.apex plan.keeps.items c.as_slice-2.result.now plan.cut c.in_ok-kept.kept.items c.as_slice.ensures c.into_items.ensures c.as_slice-2.ensures.value c.in-Ok.ensures.ok c.in_ok-kept.ensures in
+    subst IsCanonical (sym c.as_slice-in-None.ensures.value) made.1.order
+
 pub invariant_of-result : goal.invariant_of-result
 invariant_of-result c =
     let plan = c.in-Ok.plan in
     let kept = c.in_ok-kept.kept.items in
     let made = plan_made c.args.records c.as_slice.result.now c.into_items.result.items plan.apex plan.keeps.items c.as_slice-2.result.now plan.cut kept c.as_slice.ensures c.into_items.ensures c.as_slice-2.ensures.value c.in-Ok.ensures.ok c.in_ok-kept.ensures in
-    plan_valid c.args.records (record { apex = plan.apex; records = kept }) plan.keeps.items plan.cut c.requires made.0 made.1 (subst (λ xs. IsFirstLarge xs None × (plan.cut ≡ None)) c.as_slice-3.ensures.value c.in-None.ensures.none)
+    record {
+      valid = plan_valid c.args.records (record { apex = plan.apex; records = kept }) plan.keeps.items plan.cut c.requires made.0 made.1 (subst (λ xs. IsFirstLarge xs None × (plan.cut ≡ None)) c.as_slice-3.ensures.value c.in-None.ensures.none);
+      indexed = subst (λ xs. IsIndex xs plan.apex c.in_ok-index_of-in-None.field-0) c.as_slice-in-None.ensures.value c.in_ok-index_of-in-None.ensures;
+    }
 
 pub returns-clause-built : goal.returns-clause-built
 returns-clause-built c =

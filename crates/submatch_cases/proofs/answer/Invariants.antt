@@ -1,5 +1,0 @@
-use Rattle.submatch_cases.proofs.answer.Given as goal
-
--- the steps are counted in the new ledger
-abbrev pub ghosts-found : goal.ghosts-found
-ghosts-found a = record { name = a.blank.name; parts = a.blank.parts }

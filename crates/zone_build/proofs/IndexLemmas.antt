@@ -1,0 +1,404 @@
+-- Places of records, and the index of a zone.
+use Rattle.std.proofs.Common.{◌≡◌, ◌≢◌, ◌⊎◌, inl, inr, ℕ, zero, suc, ◌+◌, ◌<◌, ◌≤◌, List, [], ◌∷◌, ◌++◌, length, take, drop, get_or, Option, Some, None, Bool, true, false, cond, length-append, refl, sym, ap, subst, ◌∙◌, arith}
+use Rattle.std.specs.Prelude.{Contains, nat_eq, is_some, ◌/◌, ◌^◌, IfSome, IfNone, OnOk, Result, Ok, Err}
+use Rattle.std.proofs.lemmas.Bool.Decides.{nat_tests}
+use Rattle.std.proofs.lemmas.List.{take_more, take_all, map-append, get_or_default}
+use Rattle.enum_base.specs.Folding.{folded, folded_byte}
+use Rattle.dns_name.proofs.NameLemmas.{folded-wire_of}
+use Rattle.zone_build.specs.declared.name_key.TheConstants.{FIRST}
+use Rattle.zone_build.specs.declared.sought.Sought.{Sought}
+use Rattle.std.specs.Option.{option_to_list, option_copied}
+use Rattle.std.specs.Map.{lookup}
+use Rattle.std.specs.List.{AllByRecursion}
+use Rattle.std.specs.declared.cmp.Ordering.{Ordering}
+use Rattle.std.specs.declared.cmp.Ordering.TheVariants.{Less, Equal, Greater}
+use Rattle.std.specs.Ordering.{nat_cmp}
+use Rattle.std.specs.Cmp.{IsTotalOrder}
+use Rattle.std.proofs.lemmas.Cmp.{nat_list_cmp_total, on_total, tied_itself}
+use Rattle.std.proofs.lemmas.List.Elements.{Contains-append_left, Contains-append_right, Contains-append_cases, Contains-push, Contains-push_cases}
+use Rattle.naptr_data.proofs.CutLemmas.{Contains-head, Contains-after, Contains-none, head_or_after}
+use Rattle.naptr_data.proofs.BelowLemmas.{below_above, below_same_top, below_same_name, length_below, length_same}
+use Rattle.naptr_data.proofs.DecideLemmas.{below_parts}
+use Rattle.naptr_data.specs.Zones.{Labels}
+use Rattle.dns_name.specs.Name.{AreSame, IsBelow, IsName, folded_labels, wire_of, parent_of}
+use Rattle.dns_wire.specs.Kinds.{soa}
+use Rattle.dns_wire.specs.declared.record.Record.{Record}
+use Rattle.zone_build.specs.Zone.{IsRising, IsCanonical, order_of, owner_order}
+use Rattle.zone_build.specs.Indexing.{Indexed, IsInserted, AllPlaces, ArePlaces, Meets, NoneMeets, FindsOwners, IsIndex, IsRunEnd, HasBelow, CoversAbove, IsGrown, candidates, key_of, mixed, state_after, owner_at, kind_at}
+use Rattle.zone_build.specs.declared.places.Places.{Places}
+use Rattle.zone_build.specs.declared.key.Key.TheVariants.{Owner}
+use Rattle.zone_build.proofs.ListLemmas.{AllByRecursion-contains, turn_of, turned_all}
+use Rattle.zone_build.proofs.OrderLemmas.{bytes_cmp, three, less_not_after, then_before, key_not_after}
+use Rattle.zone_build.specs.declared.sought.Sought.TheVariants.{At, Below}
+
+-- the record at a place
+pub record_at : (xs : List Record) (k : ℕ) → k < length xs → (r : Record) × Contains xs r × (r ≡ get_or xs k r) × (owner_at xs k ≡ r.owner) × (kind_at xs k ≡ r.kind)
+record_at [] k l = absurd (omega arith)
+record_at (x ∷ xs) zero l = (x, Contains-head x xs, refl, refl, refl)
+record_at (x ∷ xs) (suc k) l = let f = record_at xs k (omega arith) in (f.0, Contains-after x xs f.0 f.1, f.2, f.3, f.4)
+
+-- what was read there
+pub owner_read : (xs : List Record) (k : ℕ) (r : Record) → k < length xs → r ≡ get_or xs k r → owner_at xs k ≡ r.owner
+owner_read [] k r l is = absurd (omega arith)
+owner_read (x ∷ xs) zero r l is = ap (λ (y : Record). y.owner) (sym is)
+owner_read (x ∷ xs) (suc k) r l is = owner_read xs k r (omega arith) is
+
+pub kind_read : (xs : List Record) (k : ℕ) (r : Record) → k < length xs → r ≡ get_or xs k r → kind_at xs k ≡ r.kind
+kind_read [] k r l is = absurd (omega arith)
+kind_read (x ∷ xs) zero r l is = ap (λ (y : Record). y.kind) (sym is)
+kind_read (x ∷ xs) (suc k) r l is = kind_read xs k r (omega arith) is
+
+-- each record stands at a place
+pub place_of : (xs : List Record) (r : Record) → Contains xs r → (k : ℕ) × (k < length xs) × (owner_at xs k ≡ r.owner) × (kind_at xs k ≡ r.kind)
+place_of [] r c = absurd (Contains-none r c)
+place_of (x ∷ xs) r c = elim (head_or_after x xs r c) [
+  | inl here ↦ (0, omega arith, ap (λ (y : Record). y.owner) (sym here), ap (λ (y : Record). y.kind) (sym here))
+  | inr after ↦ let f = place_of xs r after in let l = f.1 in (suc f.0, omega arith, f.2, f.3)
+]
+
+-- the order of names
+abbrev pub names_cmp : Labels → Labels → Ordering
+names_cmp one other = bytes_cmp (wire_of (folded_labels one)) (wire_of (folded_labels other))
+
+pub names_total : IsTotalOrder names_cmp
+names_total = on_total (λ (name : Labels). wire_of (folded_labels name)) nat_list_cmp_total
+
+same_equal : (one other : Labels) → AreSame one other → names_cmp one other ≡ Equal
+same_equal one other a = ap (λ x. bytes_cmp (wire_of (folded_labels one)) (wire_of x)) (sym a) ∙ tied_itself names_total one
+
+-- owners of records that rise do not fall
+rising_owners : (xs : List Record) (j k : ℕ) → IsRising xs → j < k → k < length xs → names_cmp (owner_at xs j) (owner_at xs k) ≢ Greater
+rising_owners [] j k r l m e = absurd (omega arith)
+rising_owners (x ∷ xs) j zero r l m e = absurd (omega arith)
+rising_owners (x ∷ xs) (suc j) (suc k) r l m e = rising_owners xs j k r.1 (omega arith) (omega arith) e
+rising_owners (x ∷ xs) zero (suc k) r l m e =
+    let f = record_at xs k (omega arith) in
+    let less : order_of x f.0 ≡ Less = AllByRecursion-contains (λ (next : Record). order_of x next ≡ Less) xs f.0 r.0 f.1 in
+    key_not_after Owner x f.0 (λ g. cc (sym less, g)) (ap (names_cmp x.owner) (sym f.3) ∙ e)
+
+pub owners_rise : (records : List Record) (j k : ℕ) → IsCanonical records → 0 < j → j < k → k < length records → names_cmp (owner_at records j) (owner_at records k) ≢ Greater
+owners_rise [] j k c p l m = absurd c
+owners_rise (x ∷ xs) zero k c p l m = absurd (omega arith)
+owners_rise (x ∷ xs) (suc j) zero c p l m = absurd (omega arith)
+owners_rise (x ∷ xs) (suc j) (suc k) c p l m = rising_owners xs j k c.2 (omega arith) (omega arith)
+
+-- the end of a run
+pub equal_or_after : (n m : ℕ) → n ≤ m → (n ≡ m) ⊎ (n < m)
+equal_or_after n m l = grind arith
+
+pub run_ends : (records : List Record) (first at : ℕ) → IsCanonical records → 0 < first → first < at → at < length records → ((k : ℕ) → first ≤ k → k < at → AreSame (owner_at records first) (owner_at records k)) → names_cmp (owner_at records first) (owner_at records at) ≢ Equal → IsRunEnd records first at
+run_ends records first at c p l m here not = record {
+  some = l;
+  within = omega arith;
+  here = here;
+  after = λ k f g same.
+      let less : names_cmp (owner_at records first) (owner_at records at) ≡ Less = then_before (names_cmp (owner_at records first) (owner_at records at)) not (owners_rise records first at c p l m) in
+      elim (equal_or_after at k f) [
+        | inl e ↦ not (ap (λ n. names_cmp (owner_at records first) (owner_at records n)) e ∙ same_equal (owner_at records first) (owner_at records k) same)
+        | inr h ↦
+            let far = less_not_after names_cmp names_total (owner_at records first) (owner_at records at) (owner_at records k) less (owners_rise records at k c (omega arith) h g) in
+            cc (sym far, same_equal (owner_at records first) (owner_at records k) same)
+      ];
+}
+
+pub run_whole : (records : List Record) (first at : ℕ) → first < length records → length records ≤ at → ((k : ℕ) → first ≤ k → k < at → AreSame (owner_at records first) (owner_at records k)) → IsRunEnd records first (length records)
+run_whole records first at l m here = record {
+  some = l;
+  within = omega arith;
+  here = λ k f g. here k f (omega arith);
+  after = λ k f g same. absurd (omega arith);
+}
+
+pub run_more : (records : List Record) (first at : ℕ) → ((k : ℕ) → first ≤ k → k < at → AreSame (owner_at records first) (owner_at records k)) → AreSame (owner_at records first) (owner_at records at) → (k : ℕ) → first ≤ k → k < at + 1 → AreSame (owner_at records first) (owner_at records k)
+run_more records first at here same k f g = elim (equal_or_after k at (omega arith)) [
+  | inl e ↦ same ∙ ap (λ n. folded_labels (owner_at records n)) (sym e)
+  | inr h ↦ here k f h
+]
+
+-- owners before a place differ from those from there on
+abbrev pub OwnersApart : List Record → ℕ → Type 0
+OwnersApart records at = (j k : ℕ) → 0 < j → j < at → at ≤ k → k < length records → ¬ AreSame (owner_at records j) (owner_at records k)
+
+pub places_made : (records : List Record) (first end : ℕ) → 0 < first → OwnersApart records first → IsRunEnd records first end → ArePlaces records (record { first = first; end = end })
+places_made records first end p apart run = record {
+  after_soa = p;
+  some = run.some;
+  within = run.within;
+  here = run.here;
+  before = λ k q l same. let s = run.some in let w = run.within in apart k first q l (omega arith) (omega arith) (sym same);
+  after = run.after;
+}
+
+pub before_or_from : (n m : ℕ) → (n < m) ⊎ (m ≤ n)
+before_or_from n m = grind arith
+
+pub apart_further : (records : List Record) (first end : ℕ) → OwnersApart records first → IsRunEnd records first end → OwnersApart records end
+apart_further records first end apart run j k p l f g same = elim (before_or_from j first) [
+  | inl h ↦ let s = run.some in apart j k p h (omega arith) g same
+  | inr h ↦ run.after k f g (run.here j h l ∙ same)
+]
+
+-- one more in an index
+pub nothing_yet : (records : List Record) → AllPlaces records (record { entries = []; rest = [] })
+nothing_yet records key one c = absurd (Contains-none one c)
+
+-- the list of those whose key was taken grows
+pub inserted_last : (old new : Indexed) (key : ℕ) (places : Places) → new.entries ≡ old.entries → new.rest ≡ old.rest ++ places ∷ [] → IsInserted old new key places
+inserted_last old new key places e r = record {
+  added = Contains-append_right (option_to_list (lookup (nat_eq key) new.entries)) new.rest places (subst (λ l. Contains l places) (sym r) (Contains-append_right old.rest (places ∷ []) places (Contains-head places [])));
+  kept = λ other one c. elim (Contains-append_cases (option_to_list (lookup (nat_eq other) old.entries)) old.rest one c) [
+    | inl front ↦ Contains-append_left (option_to_list (lookup (nat_eq other) new.entries)) new.rest one (subst (λ es. Contains (option_to_list (lookup (nat_eq other) es)) one) (sym e) front)
+    | inr back ↦ Contains-append_right (option_to_list (lookup (nat_eq other) new.entries)) new.rest one (subst (λ l. Contains l one) (sym r) (Contains-append_left old.rest (places ∷ []) one back))
+  ];
+  only = λ other one c. elim (Contains-append_cases (option_to_list (lookup (nat_eq other) new.entries)) new.rest one c) [
+    | inl front ↦ inl (Contains-append_left (option_to_list (lookup (nat_eq other) old.entries)) old.rest one (subst (λ es. Contains (option_to_list (lookup (nat_eq other) es)) one) e front))
+    | inr back ↦ elim (Contains-append_cases old.rest (places ∷ []) one (subst (λ l. Contains l one) r back)) [
+      | inl here ↦ inl (Contains-append_right (option_to_list (lookup (nat_eq other) old.entries)) old.rest one here)
+      | inr new ↦ elim (head_or_after places [] one new) [ inl is ↦ inr is | inr none ↦ absurd (Contains-none one none) ]
+    ]
+  ];
+}
+
+none_of : (o : Option Places) → is_some o ≡ false → o ≡ None
+none_of None e = refl
+none_of (Some x) e = absurd (cc)
+
+bool_cases : (b : Bool) → (b ≡ true) ⊎ (b ≡ false)
+bool_cases true = inl refl
+bool_cases false = inr refl
+
+-- a key that was not there is added
+pub inserted_key : (old new : Indexed) (key : ℕ) (places : Places) → ((q : ℕ) → lookup (nat_eq q) new.entries ≡ cond (nat_eq key q) (Some places) (lookup (nat_eq q) old.entries)) → ((q : ℕ) → nat_eq key q ≡ true → lookup (nat_eq q) old.entries ≡ None) → lookup (nat_eq key) new.entries ≡ Some places → new.rest ≡ old.rest → IsInserted old new key places
+inserted_key old new key places update none there r = record {
+  added = Contains-append_left (option_to_list (lookup (nat_eq key) new.entries)) new.rest places (subst (λ o. Contains (option_to_list o) places) (sym there) (Contains-head places []));
+  kept = λ other one c. elim (Contains-append_cases (option_to_list (lookup (nat_eq other) old.entries)) old.rest one c) [
+    | inl front ↦ elim (bool_cases (nat_eq key other)) [
+      | inl hit ↦ absurd (Contains-none one (subst (λ o. Contains (option_to_list o) one) (none other hit) front))
+      | inr miss ↦ Contains-append_left (option_to_list (lookup (nat_eq other) new.entries)) new.rest one (subst (λ o. Contains (option_to_list o) one) (sym (update other ∙ ap (λ b. cond b (Some places) (lookup (nat_eq other) old.entries)) miss)) front)
+    ]
+    | inr back ↦ Contains-append_right (option_to_list (lookup (nat_eq other) new.entries)) new.rest one (subst (λ l. Contains l one) (sym r) back)
+  ];
+  only = λ other one c. elim (Contains-append_cases (option_to_list (lookup (nat_eq other) new.entries)) new.rest one c) [
+    | inl front ↦ elim (bool_cases (nat_eq key other)) [
+      | inl hit ↦ elim (head_or_after places [] one (subst (λ o. Contains (option_to_list o) one) (update other ∙ ap (λ b. cond b (Some places) (lookup (nat_eq other) old.entries)) hit) front)) [ inl is ↦ inr is | inr none ↦ absurd (Contains-none one none) ]
+      | inr miss ↦ inl (Contains-append_left (option_to_list (lookup (nat_eq other) old.entries)) old.rest one (subst (λ o. Contains (option_to_list o) one) (update other ∙ ap (λ b. cond b (Some places) (lookup (nat_eq other) old.entries)) miss) front))
+    ]
+    | inr back ↦ inl (Contains-append_right (option_to_list (lookup (nat_eq other) old.entries)) old.rest one (subst (λ l. Contains l one) r back))
+  ];
+}
+
+keys_equal : (n m : ℕ) → nat_eq n m ≡ true → n ≡ m
+keys_equal n m e = grind (arith, nat_tests)
+
+-- a key that is not there
+pub key_absent : (entries : List (ℕ × Places)) (key q : ℕ) → is_some (lookup (nat_eq key) entries) ≡ false → nat_eq key q ≡ true → lookup (nat_eq q) entries ≡ None
+key_absent entries key q not e =
+    subst (λ n. lookup (nat_eq n) entries ≡ None) (keys_equal key q e) (none_of (lookup (nat_eq key) entries) not)
+
+-- keys of names
+state_after-push : (s : ℕ) (xs : List ℕ) (b : ℕ) → state_after s (xs ++ b ∷ []) ≡ mixed (state_after s xs) b
+unfolding state_after
+state_after-push s [] b = refl
+state_after-push s (x ∷ xs) b = state_after-push (mixed s x) xs b
+
+pub state_more : (first : ℕ) (bytes : List ℕ) (i state next : ℕ) → i < length bytes → state ≡ state_after first (folded (take i bytes)) → next ≡ mixed state (folded_byte (get_or bytes i 0)) → next ≡ state_after first (folded (take (i + 1) bytes))
+state_more first bytes i state next l is e =
+    e ∙ ap (λ s. mixed s (folded_byte (get_or bytes i 0))) is ∙ sym (state_after-push first (folded (take i bytes)) (folded_byte (get_or bytes i 0)))
+    ∙ ap (state_after first) (sym (map-append folded_byte (take i bytes) (get_or bytes i 0 ∷ []))) ∙ ap (λ xs. state_after first (folded xs)) (sym (take_more bytes i 0 l))
+
+pub state_first : (first : ℕ) (bytes : List ℕ) → first ≡ state_after first (folded (take 0 bytes))
+unfolding state_after
+state_first first bytes = refl
+
+pub key_met : (name : Labels) (bytes : List ℕ) (i state : ℕ) → bytes ≡ wire_of name → IsName name → length bytes ≤ i → state ≡ state_after FIRST (folded (take i bytes)) → state / 2 ^ 64 ≡ key_of name
+unfolding key_of
+key_met name bytes i state wire is end all =
+    ap (λ s. s / 2 ^ 64) (all ∙ ap (λ xs. state_after FIRST (folded xs)) (take_all i bytes end ∙ wire) ∙ ap (state_after FIRST) (folded-wire_of name is.each))
+
+pub same_keys : (one other : Labels) → AreSame one other → key_of one ≡ key_of other
+unfolding key_of
+same_keys one other same = ap (λ n. state_after FIRST (wire_of n) / 2 ^ 64) same
+
+-- finding
+pub first_within : (records : List Record) (index : Indexed) (list : List Places) → AllPlaces records index → list ≡ index.rest → (one : Places) → Contains list one → one.first < length records
+first_within records index list all is one c =
+    let p = all 0 one (Contains-append_right (option_to_list (lookup (nat_eq 0) index.entries)) index.rest one (subst (λ l. Contains l one) is c)) in
+    let s = p.some in
+    let w = p.within in
+    omega arith
+
+pub in_map : (index : Indexed) (key : ℕ) (one : Places) → lookup (nat_eq key) index.entries ≡ Some one → Contains (candidates index key) one
+in_map index key one is = Contains-append_left (option_to_list (lookup (nat_eq key) index.entries)) index.rest one (subst (λ o. Contains (option_to_list o) one) (sym is) (Contains-head one []))
+
+pub in_rest : (index : Indexed) (key : ℕ) (list : List Places) (one : Places) → list ≡ index.rest → Contains list one → Contains (candidates index key) one
+in_rest index key list one is c = Contains-append_right (option_to_list (lookup (nat_eq key) index.entries)) index.rest one (subst (λ l. Contains l one) is c)
+
+pub none_in_both : (sought : Sought) (records : List Record) (name : Labels) (index : Indexed) (key : ℕ) (list : List Places) → list ≡ index.rest → ((one : Places) → lookup (nat_eq key) index.entries ≡ Some one → ¬ Meets sought (owner_at records one.first) name) → NoneMeets sought records name list → NoneMeets sought records name (candidates index key)
+none_in_both sought records name index key list is front back one c = elim (Contains-append_cases (option_to_list (lookup (nat_eq key) index.entries)) index.rest one c) [
+  | inl here ↦ front one (only_in (lookup (nat_eq key) index.entries) one here)
+  | inr there ↦ back one (subst (λ l. Contains l one) (sym is) there)
+]
+  where
+    only_in : (o : Option Places) (one : Places) → Contains (option_to_list o) one → o ≡ Some one
+    only_in None one c = absurd (Contains-none one c)
+    only_in (Some x) one c = elim (head_or_after x [] one c) [ inl here ↦ ap (λ y. Some y) (sym here) | inr none ↦ absurd (Contains-none one none) ]
+
+-- places in their turn
+pub none_more : (sought : Sought) (records : List Record) (name : Labels) (list : List Places) (i : ℕ) (d : Places) → i < length list → NoneMeets sought records name (take i list) → ¬ Meets sought (owner_at records (get_or list i d).first) name → NoneMeets sought records name (take (i + 1) list)
+none_more sought records name list i d l none not one c = elim (turn_of list i (get_or list i d) one l (get_or_default list i d (get_or list i d) l) c) [
+  | inl old ↦ none one old
+  | inr new ↦ λ m. not (subst (λ (p : Places). Meets sought (owner_at records p.first) name) new m)
+]
+
+pub none_turned : (sought : Sought) (records : List Record) (name : Labels) (list : List Places) (i : ℕ) → length list ≤ i → NoneMeets sought records name (take i list) → NoneMeets sought records name list
+none_turned sought records name list i end none one c = none one (turned_all list i one end c)
+
+-- of what a result has
+pub some_map : {X : Type 0} (P Q : X → Type 0) → ((x : X) → P x → Q x) → (o : Option X) → IfSome o P → IfSome o Q
+some_map P Q f None p = tt
+some_map P Q f (Some x) p = f x p
+
+pub none_map : {X : Type 0} (P Q : Type 0) → (P → Q) → (o : Option X) → IfNone o P → IfNone o Q
+none_map P Q f None p = f p
+none_map P Q f (Some x) p = tt
+
+pub ok_map : {X E : Type 0} (P Q : Type 0) → (P → Q) → (r : Result X E) → OnOk r P → OnOk r Q
+ok_map P Q f (Ok x) p = f p
+ok_map P Q f (Err e) p = tt
+
+pub both_map : {X E : Type 0} (P Q R : Type 0) → (P → Q → R) → (r : Result X E) → OnOk r P → OnOk r Q → OnOk r R
+both_map P Q R f (Ok x) p q = f p q
+both_map P Q R f (Err e) p q = tt
+
+-- one more name
+pub grown_same : (records : List Record) (index : Indexed) → AllPlaces records index → IsGrown records index index
+grown_same records index all = record { places = all; kept = λ key one c. c }
+
+pub grown_twice : (records : List Record) (one two three : Indexed) → IsGrown records one two → IsGrown records two three → IsGrown records one three
+grown_twice records one two three g h = record { places = h.places; kept = λ key p c. h.kept key p (g.kept key p c) }
+
+pub inserted_grown : (records : List Record) (old new : Indexed) (key : ℕ) (places : Places) → AllPlaces records old → ArePlaces records places → IsInserted old new key places → IsGrown records old new
+inserted_grown records old new key places all here i = record {
+  places = λ other one c. elim (i.only other one c) [ inl was ↦ all other one was | inr is ↦ subst (ArePlaces records) (sym is) here ];
+  kept = i.kept;
+}
+
+pub inserted_has : (records : List Record) (old new : Indexed) (key : ℕ) (name : Labels) (places : Places) → key ≡ key_of name → IsBelow (owner_at records places.first) name → IsInserted old new key places → HasBelow records new name
+inserted_has records old new key name places is below i = (places, subst (λ k. Contains (candidates new k) places) is i.added, below)
+
+pub has_grown : (records : List Record) (old new : Indexed) (name : Labels) → IsGrown records old new → HasBelow records old name → HasBelow records new name
+has_grown records old new name g (one, c, b) = (one, g.kept (key_of name) one c, b)
+
+pub below_both : (a b : Labels) → IsBelow a b → IsBelow b a → AreSame a b
+below_both a b ([], back, parts, same) d = ap folded_labels parts ∙ same
+below_both a b (l ∷ front, back, parts, same) d =
+    let whole = ap length parts ∙ length-append (l ∷ front) back in
+    let part = length_same back b same in
+    let less = length_below b a d in
+    absurd (omega (arith, whole, part, less))
+
+-- the names at or above one
+pub covers_apex : (records : List Record) (apex name : Labels) (index : Indexed) → AreSame name apex → CoversAbove records apex name index
+covers_apex records apex name index same above b inside not =
+    absurd (not (below_both above apex inside (below_same_name name apex above same b)))
+
+pub has_same : (records : List Record) (index : Indexed) (name other : Labels) → AreSame name other → HasBelow records index name → HasBelow records index other
+has_same records index name other same (one, c, b) =
+    (one, subst (λ k. Contains (candidates index k) one) (same_keys name other same) c, below_same_top (owner_at records one.first) name other same b)
+
+pub covers_more : (records : List Record) (apex name above : Labels) (old new : Indexed) → Some above ≡ parent_of name → HasBelow records old name → IsGrown records old new → CoversAbove records apex above new → CoversAbove records apex name new
+covers_more records apex [] above old new is has g covers other b inside not = absurd (cc)
+covers_more records apex (label ∷ name) above old new is has g covers other b inside not = elim (below_parts label name other b) [
+  | inl same ↦ has_same records new (label ∷ name) other same (has_grown records old new (label ∷ name) g has)
+  | inr further ↦
+      let e : above ≡ name = cc in covers other (subst (λ n. IsBelow n other) (sym e) further) inside not
+]
+
+pub covers_root : (records : List Record) (apex name : Labels) (index : Indexed) → None ≡ parent_of name → HasBelow records index name → CoversAbove records apex name index
+covers_root records apex (label ∷ name) index is has other b inside not = absurd (cc)
+covers_root records apex [] index is has other b inside not = has_same records index [] other (root_same other b) has
+  where
+    root_same : (other : Labels) → IsBelow [] other → AreSame [] other
+    root_same other ([], back, parts, same) = ap folded_labels parts ∙ same
+    root_same other (l ∷ front, back, parts, same) = absurd (cc)
+
+-- the name above one
+pub shorter_above : (name above : Labels) → Some above ≡ parent_of name → length above < length name
+shorter_above [] above is = absurd (cc)
+shorter_above (label ∷ name) above is = let e : above ≡ name = cc in omega (arith, ap length e)
+
+pub below_parent : (owner name above : Labels) → Some above ≡ parent_of name → IsBelow owner name → IsBelow owner above
+below_parent owner [] above is b = absurd (cc)
+below_parent owner (label ∷ name) above is b =
+    let e : above ≡ name = cc in
+    subst (IsBelow owner) (sym e) (below_above owner (label ∷ []) name b)
+
+-- owners, one after another
+pub record OwnersUntil (records : List Record) (at : ℕ) (index : Indexed) : Type 0 where
+  pub some : 0 < at
+  pub apart : OwnersApart records at
+  pub places : AllPlaces records index
+  pub owners : (k : ℕ) → 0 < k → k < at → (one : Places) × Contains (candidates index (key_of (owner_at records k))) one × AreSame (owner_at records one.first) (owner_at records k)
+
+pub owners_none : (records : List Record) (index : Indexed) → AllPlaces records index → OwnersUntil records 1 index
+owners_none records index all = record {
+  some = omega arith;
+  apart = λ j k p l f g. absurd (omega arith);
+  places = all;
+  owners = λ k p l. absurd (omega arith);
+}
+
+pub owners_more : (records : List Record) (first end key : ℕ) (old new : Indexed) → OwnersUntil records first old → IsRunEnd records first end → key ≡ key_of (owner_at records first) → IsInserted old new key (record { first = first; end = end }) → OwnersUntil records end new
+owners_more records first end key old new u run is i = record {
+  some = let s = run.some in omega arith;
+  apart = apart_further records first end u.apart run;
+  places = grown.places;
+  owners = λ k p l. elim (before_or_from k first) [
+    | inl before ↦ let f = u.owners k p before in (f.0, grown.kept (key_of (owner_at records k)) f.0 f.1, f.2)
+    | inr from ↦ let same = run.here k from l in (record { first = first; end = end }, subst (λ n. Contains (candidates new n) (record { first = first; end = end })) (is ∙ same_keys (owner_at records first) (owner_at records k) same) i.added, same)
+  ];
+}
+  where
+    grown : IsGrown records old new
+    grown = inserted_grown records old new key (record { first = first; end = end }) u.places (places_made records first end u.some u.apart run) i
+
+pub owners_all : (records : List Record) (at : ℕ) (index : Indexed) → length records ≤ at → OwnersUntil records at index → FindsOwners records index
+owners_all records at index end u = record {
+  places = u.places;
+  owners = λ k p l none. let f = u.owners k p (omega arith) in none f.0 f.1 f.2;
+}
+
+-- names above owners, one owner after another
+pub record NamesUntil (records : List Record) (apex : Labels) (at : ℕ) (index : Indexed) : Type 0 where
+  pub some : 0 < at
+  pub apart : OwnersApart records at
+  pub owners : FindsOwners records index
+  pub names : (k : ℕ) (name : Labels) → 0 < k → k < at → IsBelow (owner_at records k) name → IsBelow name apex → ¬ AreSame name apex → HasBelow records index name
+
+pub names_none : (records : List Record) (apex : Labels) (index : Indexed) → FindsOwners records index → NamesUntil records apex 1 index
+names_none records apex index owners = record {
+  some = omega arith;
+  apart = λ j k p l f g. absurd (omega arith);
+  owners = owners;
+  names = λ k name p l. absurd (omega arith);
+}
+
+pub names_more : (records : List Record) (apex : Labels) (first end : ℕ) (old new : Indexed) → NamesUntil records apex first old → IsRunEnd records first end → IsGrown records old new → CoversAbove records apex (owner_at records first) new → NamesUntil records apex end new
+names_more records apex first end old new u run grown covers = record {
+  some = let s = run.some in let p = u.some in omega arith;
+  apart = apart_further records first end u.apart run;
+  owners = record {
+    places = grown.places;
+    owners = λ k p l none. u.owners.owners k p l (λ one c. none one (grown.kept (key_of (owner_at records k)) one c));
+  };
+  names = λ k name p l b inside not. elim (before_or_from k first) [
+    | inl before ↦ has_grown records old new name grown (u.names k name p before b inside not)
+    | inr from ↦ covers name (below_same_name (owner_at records k) (owner_at records first) name (sym (run.here k from l)) b) inside not
+  ];
+}
+
+pub names_all : (records : List Record) (apex : Labels) (at : ℕ) (index : Indexed) → length records ≤ at → NamesUntil records apex at index → IsIndex records apex index
+names_all records apex at index end u = record {
+  owners = u.owners;
+  names = λ k name p l b inside not none. let h = u.names k name p (omega arith) b inside not in none h.0 h.1 h.2;
+}

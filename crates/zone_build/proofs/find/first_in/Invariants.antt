@@ -1,8 +1,0 @@
-use Rattle.std.proofs.Common.{take}
-use Rattle.std.specs.Prelude.{Contains}
-use Rattle.dns_wire.specs.declared.record.Record.{Record}
-use Rattle.zone_build.specs.Finding.{Differs}
-use Rattle.zone_build.proofs.find.first_in.Given as goal
-
-abbrev pub invariant-loop-at : goal.invariant-loop-at
-invariant-loop-at l = (one : Record) → Contains (take l.at l.records) one → Differs l.owner l.kind one

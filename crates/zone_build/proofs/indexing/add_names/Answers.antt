@@ -1,0 +1,15 @@
+use Rattle.std.proofs.Common.{subst}
+use Rattle.naptr_data.proofs.BelowLemmas.{below_itself}
+use Rattle.zone_build.specs.Indexing.{CoversAbove}
+use Rattle.zone_build.proofs.IndexLemmas.{names_none, names_more, names_all, places_made}
+use Rattle.zone_build.proofs.indexing.add_names.Goals as goal
+
+pub loop-first-init : goal.loop-first-init
+loop-first-init c = names_none c.args.records.now c.args.apex.now c.args.index.now c.requires.owners
+
+pub loop-first-preserved : goal.loop-first-preserved
+loop-first-preserved c =
+    names_more c.args.records.now c.args.apex.now c.loop-first.first c.end_of-end.result c.loop-first.index c.add_above.new.index c.loop-first.invariant c.end_of-end.ensures c.in_ok-add_above.ensures.grown (subst (λ n. CoversAbove c.args.records.now c.args.apex.now n c.add_above.new.index) c.owner_at-owner.ensures c.in_ok-add_above.ensures.above)
+
+pub returns : goal.returns
+returns c = names_all c.args.records.now c.args.apex.now c.loop-first.first c.loop-first.index c.loop-first-test.false c.loop-first.invariant

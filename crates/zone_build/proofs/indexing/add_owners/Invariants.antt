@@ -1,0 +1,9 @@
+use Rattle.std.proofs.Common.{◌-◌, length}
+use Rattle.zone_build.proofs.IndexLemmas.{OwnersUntil}
+use Rattle.zone_build.proofs.indexing.add_owners.Given as goal
+
+abbrev pub invariant-loop-first : goal.invariant-loop-first
+invariant-loop-first l = OwnersUntil l.records l.first l.index
+
+abbrev pub decreases-loop-first : goal.decreases-loop-first
+decreases-loop-first l = length l.records - l.first

@@ -1,0 +1,102 @@
+//! An index of records by name.
+ghost use Rattle.std.specs.Prelude.{◌≡◌, ◌↔◌, ◌<◌, [], length, IsTrue, IfSome, IfNone, OnOk, Contains};
+ghost use Rattle.zone_build.specs.declared.places.Places.{Places};
+ghost use Rattle.zone_build.specs.Indexing.{IsInserted, AllPlaces, Meets, NoneMeets, candidates, key_of, owner_at};
+
+use crate::name_key::key_of;
+use crate::places::Places;
+use crate::sought::Sought;
+use dns_name::Name;
+use dns_wire::Record;
+use enum_base::MemoryFault;
+use indexmap::IndexMap;
+use std::alloc::Global;
+use std::marker::Model;
+
+/// Places of records by the keys of names. Where two names have one key, the places of the second are in a list.
+#[derive(Drop)]
+pub(crate) struct Index {
+    map: IndexMap<u64, Places>,
+    rest: Vec<Places>,
+}
+
+impl Model for Index {
+    ghost use Rattle.zone_build.specs.Indexing.{Indexed};
+
+    ghost Value = { Indexed };
+
+    ghost view = { λ i. record { entries = i.map.entries; rest = i.rest.items } };
+}
+
+impl Index {
+    pub(crate) fn new(alloc: Global) -> Index
+        ensures { result ≡ record { entries = []; rest = [] } }
+    {
+        Index {
+            map: IndexMap::new(alloc),
+            rest: Vec::new(alloc),
+        }
+    }
+
+    /// Adds the places under that key.
+    pub(crate) fn insert(&mut self, key: u64, places: Places) -> Result<(), MemoryFault>
+        ensures { OnOk result (IsInserted self.old self.new key places) }
+    {
+        if self.map.contains_key(&key) {
+            self.rest.push(places)?;
+        } else {
+            self.map.insert(key, places)?;
+        }
+        Ok(())
+    }
+
+    /// The places of the records at that name, or of some at or below it.
+    pub(crate) fn find(&self, records: &[Record], name: &Name, sought: Sought) -> Option<Places>
+        requires { AllPlaces records.now self.now }
+        ensures there { IfSome result (λ one. Contains (candidates self.now (key_of name.now)) one) }
+        ensures meets { IfSome result (λ one. Meets sought (owner_at records.now one.first) name.now) }
+        ensures none { IfNone result (NoneMeets sought records.now name.now (candidates self.now (key_of name.now))) }
+    {
+        if let Some(one) = self.map.get(&key_of(name)) {
+            if meets(records, one, name, sought) {
+                return Some(*one);
+            }
+        }
+        first_meeting(self.rest.as_slice(), records, name, sought)
+    }
+}
+
+// The first places in the list at which an owner is sought.
+fn first_meeting(list: &[Places], records: &[Record], name: &Name, sought: Sought) -> Option<Places>
+    requires { (one : Places) → Contains list.now one → one.first < length records.now }
+    ensures there { IfSome result (λ one. Contains list.now one) }
+    ensures meets { IfSome result (λ one. Meets sought (owner_at records.now one.first) name.now) }
+    ensures none { IfNone result (NoneMeets sought records.now name.now list.now) }
+{
+    for one in list {
+        if meets(records, one, name, sought) {
+            return Some(*one);
+        }
+    }
+    None
+}
+
+// Whether the owner at the places is sought.
+fn meets(records: &[Record], places: &Places, name: &Name, sought: Sought) -> bool
+    requires { places.now.first < length records.now }
+    ensures { IsTrue result ↔ Meets sought (owner_at records.now places.now.first) name.now }
+{
+    let owner = owner_at(records, places.first);
+    match sought {
+        Sought::At => owner.same(name),
+        Sought::Below => owner.is_below(name),
+    }
+}
+
+/// The owner of the record at a place.
+pub(crate) fn owner_at(records: &[Record], place: usize) -> &Name
+    requires { place < length records.now }
+    ensures { result.now ≡ owner_at records.now place }
+{
+    &records[place].owner
+}
