@@ -1,5 +1,6 @@
 -- Bare tokens as they are written, scanned again.
-use Rattle.std.proofs.Common.{◌≡◌, ◌∙◌, ℕ, ◌+◌, ◌*◌, ◌/◌, ◌%◌, ◌<◌, ◌≤◌, List, [], ◌∷◌, ◌++◌, length, Bool, true, false, refl, ap, sym, arith, append_assoc, length-append}
+use Rattle.std.proofs.Common.{◌≡◌, ◌∙◌, ℕ, ◌+◌, ◌*◌, ◌/◌, ◌%◌, ◌<◌, ◌≤◌, List, [], ◌∷◌, ◌++◌, length, Bool, true, false}
+use Rattle.std.proofs.Common.{refl, ap, sym, arith, append_assoc, length-append}
 use Rattle.std.specs.Prelude.{not, ◌==◌, ◌&&◌, ◌||◌, is_some, bytes_eq}
 use Rattle.std.specs.Char.{is_ascii_digit}
 use Rattle.std.specs.List.{AllByRecursion, flat_map}
@@ -29,7 +30,7 @@ ends-plain byte rest plain =
     let h : (byte == 34) ≡ false = grind (arith, nat_tests) in
     rw (a, b, c, d, e, f, g, h) refl
 
--- the scan of a bare token goes on behind a byte
+-- the scan of a bare token goes on after a byte
 goes : (escaped : Bool) (size byte : ℕ) (rest : List ℕ) → (not escaped && ends_bare (byte ∷ rest)) ≡ false → is_bare escaped (byte ∷ rest) ≡ true
     → bare_from escaped size (byte ∷ rest) ≡ bare_from (not escaped && byte == backslash) (size + 1) rest
 goes escaped size byte rest ends may = cond-false (not escaped && ends_bare (byte ∷ rest)) _ _ ends ∙ cond-true (is_bare escaped (byte ∷ rest)) _ _ may
@@ -86,13 +87,16 @@ PassesBare-byte_text byte small =
 
 PassesBare-bytes : (label : List ℕ) → AllByRecursion IsByte label → PassesBare (flat_map byte_text label)
 PassesBare-bytes [] all size rest = ap (λ n. bare_from false n rest) (let e : size ≡ size + 0 = omega arith in e)
-PassesBare-bytes (byte ∷ label) all size rest = PassesBare-append (byte_text byte) (flat_map byte_text label) (PassesBare-byte_text byte all.0) (PassesBare-bytes label all.1) size rest
+PassesBare-bytes (byte ∷ label) all size rest =
+    PassesBare-append (byte_text byte) (flat_map byte_text label) (PassesBare-byte_text byte all.0)
+    (PassesBare-bytes label all.1) size rest
 
 PassesBare-labels : (labels : List (List ℕ)) → AllByRecursion IsLabel labels → PassesBare (flat_map label_text labels)
 PassesBare-labels [] all size rest = ap (λ n. bare_from false n rest) (let e : size ≡ size + 0 = omega arith in e)
 PassesBare-labels (label ∷ labels) all size rest =
     PassesBare-append (label_text label) (flat_map label_text labels)
-    (PassesBare-append (flat_map byte_text label) (46 ∷ []) (PassesBare-bytes label all.0.bytes) (PassesBare-byte 46 refl)) (PassesBare-labels labels all.1) size rest
+    (PassesBare-append (flat_map byte_text label) (46 ∷ []) (PassesBare-bytes label all.0.bytes)
+    (PassesBare-byte 46 refl)) (PassesBare-labels labels all.1) size rest
 
 pub PassesBare-name : (labels : List (List ℕ)) → AllByRecursion IsLabel labels → PassesBare (text_of labels)
 PassesBare-name [] all = PassesBare-byte 46 refl
@@ -111,7 +115,9 @@ Begins-plain [] some all rest = absurd (omega arith)
 Begins-plain (byte ∷ text) some all rest = ends-plain byte (text ++ rest) all.0
 
 -- how the text of a byte begins: with a backslash, or with a visible byte that is not special
-begins_byte : (test : List ℕ → Bool) (byte : ℕ) → ((rest : List ℕ) → test (92 ∷ rest) ≡ false) → ((rest : List ℕ) → is_special byte ≡ false → is_shown byte ≡ true → test (byte ∷ rest) ≡ false) → Fails test (byte_text byte)
+begins_byte : (test : List ℕ → Bool) (byte : ℕ) → ((rest : List ℕ) → test (92 ∷ rest) ≡ false)
+    → ((rest : List ℕ) → is_special byte ≡ false → is_shown byte ≡ true → test (byte ∷ rest) ≡ false)
+    → Fails test (byte_text byte)
 begins_byte test byte escaped shown =
     cond_both (is_special byte) _ _ (Fails test) (λ special rest. escaped (byte ∷ rest)) (λ other.
     cond_both (is_shown byte) _ _ (Fails test) (λ visible rest. shown rest other visible) (λ hidden rest. escaped _))
@@ -119,7 +125,8 @@ begins_byte test byte escaped shown =
 Fails-append : (test : List ℕ → Bool) (one other : List ℕ) → Fails test one → Fails test (one ++ other)
 Fails-append test one other begins rest = ap test (append_assoc one other rest) ∙ begins (other ++ rest)
 
-begins_name : (test : List ℕ → Bool) → Fails test (46 ∷ []) → ((byte : ℕ) → Fails test (byte_text byte)) → (labels : List (List ℕ)) → AllByRecursion IsLabel labels → Fails test (text_of labels)
+begins_name : (test : List ℕ → Bool) → Fails test (46 ∷ []) → ((byte : ℕ) → Fails test (byte_text byte))
+    → (labels : List (List ℕ)) → AllByRecursion IsLabel labels → Fails test (text_of labels)
 begins_name test root each [] all rest = root rest
 begins_name test root each ([] ∷ labels) all rest = absurd (let some = all.0.some in omega arith)
 begins_name test root each ((byte ∷ label) ∷ labels) all rest =
@@ -130,7 +137,9 @@ shown-plain : (byte : ℕ) → is_special byte ≡ false → is_shown byte ≡ t
 shown-plain byte other shown = grind (arith, nat_tests)
 
 pub Begins-name : (labels : List (List ℕ)) → AllByRecursion IsLabel labels → Begins (text_of labels)
-Begins-name = begins_name ends_bare (λ rest. refl) (λ byte. begins_byte ends_bare byte (λ rest. refl) (λ rest other shown. ends-plain byte rest (shown-plain byte other shown)))
+Begins-name = begins_name ends_bare (λ rest. refl)
+    (λ byte. begins_byte ends_bare byte (λ rest. refl)
+    (λ rest other shown. ends-plain byte rest (shown-plain byte other shown)))
 
 -- no name is written as the sign of the origin
 first-other : (byte : ℕ) (rest : List ℕ) → (byte == 64) ≡ false → bytes_eq (byte ∷ rest) (64 ∷ []) ≡ false
@@ -139,4 +148,6 @@ first-other byte rest other = rw other refl
 pub no_sign : (labels : List (List ℕ)) → AllByRecursion IsLabel labels → bytes_eq (text_of labels) (64 ∷ []) ≡ false
 no_sign labels all =
     ap (λ t. bytes_eq t (64 ∷ [])) (sym (append-nil (text_of labels)))
-    ∙ begins_name (λ text. bytes_eq text (64 ∷ [])) (λ rest. refl) (λ byte. begins_byte (λ text. bytes_eq text (64 ∷ [])) byte (λ rest. refl) (λ rest other shown. first-other byte rest (grind (arith, nat_tests)))) labels all []
+    ∙ begins_name (λ text. bytes_eq text (64 ∷ [])) (λ rest. refl)
+    (λ byte. begins_byte (λ text. bytes_eq text (64 ∷ [])) byte (λ rest. refl)
+    (λ rest other shown. first-other byte rest (grind (arith, nat_tests)))) labels all []

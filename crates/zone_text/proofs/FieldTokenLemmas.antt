@@ -1,5 +1,6 @@
 -- The tokens of fields with spaces between them.
-use Rattle.std.proofs.Common.{◌≡◌, ◌∙◌, ℕ, ◌+◌, ◌-◌, ◌<◌, List, [], ◌∷◌, ◌++◌, length, take, drop, codes, Bool, true, false, Ok, refl, ap, sym, arith, append_assoc, length-append}
+use Rattle.std.proofs.Common.{◌≡◌, ◌∙◌, ℕ, ◌+◌, ◌-◌, ◌<◌, List, [], ◌∷◌, ◌++◌, length, take, drop, codes, Bool, true}
+use Rattle.std.proofs.Common.{false, Ok, refl, ap, sym, arith, append_assoc, length-append}
 use Rattle.std.specs.Prelude.{cond, ◌==◌, ◌||◌, if◌then◌else◌}
 use Rattle.std.specs.List.{AllByRecursion, flat_map}
 use Rattle.std.proofs.Math.Seq.{take-append_seam, drop-append_seam}
@@ -24,17 +25,18 @@ between_quotes text = record { quoted = true; text = flat_map quoted_byte text }
 abbrev pub field_text : Token → List ℕ
 field_text token = if token.quoted then 34 ∷ (token.text ++ 34 ∷ []) else token.text
 
--- tokens, each behind a space
-abbrev pub line_behind : List Token → List ℕ
-line_behind tokens = flat_map (λ token. codes " " ++ field_text token) tokens
+-- tokens, each after a space
+abbrev pub line_after : List Token → List ℕ
+line_after tokens = flat_map (λ token. codes " " ++ field_text token) tokens
 
 -- tokens with one space between them
 abbrev pub line_of : List Token → List ℕ
 line_of [] = []
-line_of (token ∷ tokens) = field_text token ++ line_behind tokens
+line_of (token ∷ tokens) = field_text token ++ line_after tokens
 
 -- none of the tests holds
-none_of : {X : Type 0} (a b c d e f : Bool) (x y z u v w : X) → (a || b || c || d || e || f) ≡ false → cond (a || b) x (cond c y (cond d z (cond e u (cond f v w)))) ≡ w
+none_of : {X : Type 0} (a b c d e f : Bool) (x y z u v w : X) → (a || b || c || d || e || f) ≡ false
+    → cond (a || b) x (cond c y (cond d z (cond e u (cond f v w)))) ≡ w
 none_of true b c d e f x y z u v w h = absurd (false≢true (sym h))
 none_of false true c d e f x y z u v w h = absurd (false≢true (sym h))
 none_of false false true d e f x y z u v w h = absurd (false≢true (sym h))
@@ -44,7 +46,9 @@ none_of false false false false false true x y z u v w h = absurd (false≢true 
 none_of false false false false false false x y z u v w h = refl
 
 -- what stands at the front of a bare token
-front-bare : (byte size : ℕ) (rest : List ℕ) → ends_bare (byte ∷ rest) ≡ false → bare_from false 0 (byte ∷ rest) ≡ Ok size → front_of false (byte ∷ rest) ≡ Ok (one false (take size (byte ∷ rest)) (size - 1) false)
+front-bare : (byte size : ℕ) (rest : List ℕ) → ends_bare (byte ∷ rest) ≡ false
+    → bare_from false 0 (byte ∷ rest) ≡ Ok size
+    → front_of false (byte ∷ rest) ≡ Ok (one false (take size (byte ∷ rest)) (size - 1) false)
 unfolding front_of
 front-bare byte size rest begins passes =
     none_of (is_blank (byte ∷ rest)) (byte == line_feed) (byte == semicolon) (byte == opening) (byte == closing) (byte == quote) _ _ _ _ _ _ begins
@@ -78,16 +82,17 @@ pub Reads-quoted : (text : List ℕ) → AllByRecursion IsByte text → Reads (b
 Reads-quoted text bytes rest ends =
     let inside = flat_map quoted_byte text in
     let size = length inside in
-    let behind : List ℕ = inside ++ 34 ∷ rest in
-    let parts : (inside ++ 34 ∷ []) ++ rest ≡ behind = append_assoc inside (34 ∷ []) rest in
-    let scanned : quoted_from false 0 behind ≡ Ok size = Passes-string text bytes 0 (34 ∷ rest) ∙ ap Ok (let e : 0 + size ≡ size = omega arith in e) in
+    let after : List ℕ = inside ++ 34 ∷ rest in
+    let parts : (inside ++ 34 ∷ []) ++ rest ≡ after = append_assoc inside (34 ∷ []) rest in
+    let scanned : quoted_from false 0 after ≡ Ok size = Passes-string text bytes 0 (34 ∷ rest) ∙ ap Ok (let e : 0 + size ≡ size = omega arith in e) in
     let front : List ℕ = 34 ∷ (inside ++ 34 ∷ []) in
     let count : size + 1 + 1 ≡ length front = omega (arith, length-append inside (34 ∷ [])) in
     ap (λ t. tokens_from 0 false (34 ∷ t)) parts
-    ∙ tokens-step false (34 ∷ behind) _ (omega arith) (front-quoted size behind scanned)
-    ∙ ap (λ t. after_tokens (record { quoted = true; text = t } ∷ []) (tokens_from 0 false (drop (size + 1 + 1) (34 ∷ behind)))) (take-append_seam inside (34 ∷ rest))
+    ∙ tokens-step false (34 ∷ after) _ (omega arith) (front-quoted size after scanned)
+    ∙ ap (λ t. after_tokens (record { quoted = true; text = t } ∷ [])
+    (tokens_from 0 false (drop (size + 1 + 1) (34 ∷ after)))) (take-append_seam inside (34 ∷ rest))
     ∙ ap (λ t. after_tokens (between_quotes text ∷ []) (tokens_from 0 false t))
-    (ap (λ n. drop n (34 ∷ behind)) count ∙ ap (λ t. drop (length front) (34 ∷ t)) (sym parts) ∙ drop-append_seam front rest)
+    (ap (λ n. drop n (34 ∷ after)) count ∙ ap (λ t. drop (length front) (34 ∷ t)) (sym parts) ∙ drop-append_seam front rest)
 
 -- a space is passed over
 front-space : (rest : List ℕ) → front_of false (32 ∷ rest) ≡ Ok (nothing 0 false)
@@ -97,17 +102,18 @@ front-space rest = refl
 after-space : (rest : List ℕ) → tokens_from 0 false (32 ∷ rest) ≡ tokens_from 0 false rest
 after-space rest = tokens-step false (32 ∷ rest) (nothing 0 false) (omega arith) (front-space rest) ∙ none-before (tokens_from 0 false rest)
 
-ends-behind : (tokens : List Token) → ends_bare (line_behind tokens) ≡ true
-ends-behind [] = refl
-ends-behind (token ∷ tokens) = refl
+ends-after : (tokens : List Token) → ends_bare (line_after tokens) ≡ true
+ends-after [] = refl
+ends-after (token ∷ tokens) = refl
 
-reads-behind : (tokens : List Token) → AllByRecursion Reads tokens → tokens_from 0 false (line_behind tokens) ≡ Ok tokens
-reads-behind [] all = tokens-end [] refl
-reads-behind (token ∷ tokens) all =
-    after-space (field_text token ++ line_behind tokens) ∙ all.0 (line_behind tokens) (ends-behind tokens) ∙ ap (after_tokens (token ∷ [])) (reads-behind tokens all.1)
+reads-after : (tokens : List Token) → AllByRecursion Reads tokens → tokens_from 0 false (line_after tokens) ≡ Ok tokens
+reads-after [] all = tokens-end [] refl
+reads-after (token ∷ tokens) all =
+    after-space (field_text token ++ line_after tokens) ∙ all.0 (line_after tokens) (ends-after tokens)
+    ∙ ap (after_tokens (token ∷ [])) (reads-after tokens all.1)
 
 -- the tokens of a line are read again
 pub tokens_of-line_of : (tokens : List Token) → AllByRecursion Reads tokens → tokens_of (line_of tokens) ≡ Ok tokens
 unfolding tokens_of
 tokens_of-line_of [] all = tokens-end [] refl
-tokens_of-line_of (token ∷ tokens) all = all.0 (line_behind tokens) (ends-behind tokens) ∙ ap (after_tokens (token ∷ [])) (reads-behind tokens all.1)
+tokens_of-line_of (token ∷ tokens) all = all.0 (line_after tokens) (ends-after tokens) ∙ ap (after_tokens (token ∷ [])) (reads-after tokens all.1)

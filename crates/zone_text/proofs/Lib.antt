@@ -10,5 +10,6 @@ pub mod RecordLemmas
 pub mod RunLemmas
 pub mod ScanLemmas
 pub mod StringLemmas
+pub mod TokenlessLemmas
 pub mod WholeLemmas
 pub mod WrittenLemmas

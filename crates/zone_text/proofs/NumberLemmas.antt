@@ -1,5 +1,7 @@
 -- Numbers in decimal, read again.
-use Rattle.std.proofs.Common.{◌≡◌, ◌∙◌, ℕ, ◌+◌, ◌-◌, ◌*◌, ◌^◌, ◌<◌, ◌≤◌, List, [], ◌∷◌, ◌++◌, length, take, drop, decimal, Bool, true, false, Some, None, Ok, refl, sym, ap, arith, append_assoc, length-append}
+use Rattle.std.proofs.Common.{◌≡◌, ◌∙◌, ℕ, ◌+◌, ◌-◌, ◌*◌, ◌^◌, ◌<◌, ◌≤◌, List, [], ◌∷◌, ◌++◌, length, take, drop}
+use Rattle.std.proofs.Common.{decimal, Bool, true, false, Some, None, Ok, refl, sym, ap, arith, append_assoc}
+use Rattle.std.proofs.Common.{length-append}
 use Rattle.std.specs.Prelude.{not, ◌==◌, nat_le, nat_lt, option_map, position}
 use Rattle.std.specs.Char.{is_ascii_digit, digit_value}
 use Rattle.std.specs.List.{AllByRecursion, fold, list_all, prefix_len, position_or_len}
@@ -30,7 +32,8 @@ negated p (x ∷ xs) all = (ap not all.0, negated p xs all.1)
 pub position-none : (p : ℕ → Bool) (xs : List ℕ) → AllByRecursion (λ x. p x ≡ false) xs → position p xs ≡ None
 position-none p xs all =
     let whole : position_or_len p xs ≡ length xs =
-    ap (prefix_len (λ x. not (p x))) (sym (append-nil xs)) ∙ prefix-all (λ x. not (p x)) xs [] (negated p xs all) ∙ (let e : length xs + 0 ≡ length xs = omega arith in e) in
+    ap (prefix_len (λ x. not (p x))) (sym (append-nil xs)) ∙ prefix-all (λ x. not (p x)) xs [] (negated p xs all)
+    ∙ (let e : length xs + 0 ≡ length xs = omega arith in e) in
     let over : nat_lt (position_or_len p xs) (length xs) ≡ false = rw whole (grind (arith, nat_tests)) in
     cond-false (nat_lt (position_or_len p xs) (length xs)) _ _ over
 
@@ -38,7 +41,8 @@ pub position-at : (p : ℕ → Bool) (xs rest : List ℕ) (x : ℕ) → AllByRec
 position-at p xs rest x all here =
     let stops : prefix_len (λ y. not (p y)) (x ∷ rest) ≡ 0 = cond-false (not (p x)) _ _ (ap not here) in
     let place : position_or_len p (xs ++ x ∷ rest) ≡ length xs =
-    prefix-all (λ y. not (p y)) xs (x ∷ rest) (negated p xs all) ∙ (let e : length xs + prefix_len (λ y. not (p y)) (x ∷ rest) ≡ length xs = omega arith in e) in
+    prefix-all (λ y. not (p y)) xs (x ∷ rest) (negated p xs all)
+    ∙ (let e : length xs + prefix_len (λ y. not (p y)) (x ∷ rest) ≡ length xs = omega arith in e) in
     let below : length xs < length (xs ++ x ∷ rest) = omega (arith, length-append xs (x ∷ rest)) in
     let within : nat_lt (position_or_len p (xs ++ x ∷ rest)) (length (xs ++ x ∷ rest)) ≡ true = rw place (lt-ltb (length xs) (length (xs ++ x ∷ rest)) below) in
     cond-true (nat_lt (position_or_len p (xs ++ x ∷ rest)) (length (xs ++ x ∷ rest))) _ _ within ∙ ap Some place
@@ -48,11 +52,11 @@ pub cut-at : (byte : ℕ) (part rest : List ℕ) → AllByRecursion (λ b. (b ==
 unfolding cut
 cut-at byte part rest all =
     let text : List ℕ = part ++ byte ∷ rest in
-    let behind : drop (length part + 1) text ≡ rest =
+    let after : drop (length part + 1) text ≡ rest =
     ap (λ n. drop n text) (let e : length part + 1 ≡ length (part ++ byte ∷ []) = omega (arith, length-append part (byte ∷ [])) in e)
     ∙ ap (drop (length (part ++ byte ∷ []))) (sym (append_assoc part (byte ∷ []) rest)) ∙ drop-append_seam (part ++ byte ∷ []) rest in
     ap (option_map (λ at. (take at text, drop (at + 1) text))) (position-at (λ b. b == byte) part rest byte all (eq-eqb byte byte refl))
-    ∙ ap (λ t. Some (t, drop (length part + 1) text)) (take-append_seam part (byte ∷ rest)) ∙ ap (λ t. Some (part, t)) behind
+    ∙ ap (λ t. Some (t, drop (length part + 1) text)) (take-append_seam part (byte ∷ rest)) ∙ ap (λ t. Some (part, t)) after
 
 pub cut-none : (byte : ℕ) (text : List ℕ) → AllByRecursion (λ b. (b == byte) ≡ false) text → cut byte text ≡ None
 unfolding cut
@@ -89,7 +93,9 @@ number_back most n low fits =
     let text : List ℕ = decimal n in
     let numeral = decimal_is_IsNumeral n fits in
     let some : (length text == 0) ≡ false = ne_eqb (length text) 0 (λ e. omega (arith, e, numeral.0.0)) in
-    let none : first_non_digit text ≡ None = position-none (λ b. not (is_ascii_digit b)) text (of_decimal (λ b. not (is_ascii_digit b) ≡ false) (λ c low high. ap not (is_digit c low high)) n fits) in
+    let none : first_non_digit text ≡ None =
+    position-none (λ b. not (is_ascii_digit b)) text
+    (of_decimal (λ b. not (is_ascii_digit b) ≡ false) (λ c low high. ap not (is_digit c low high)) n fits) in
     let value : decimal_value text ≡ n = value-after text 0 numeral.0.1 ∙ numeral.1 in
     cond-false (length text == 0) _ _ some ∙ ap (λ o. unless_at o (up_to most (decimal_value text))) none
     ∙ ap (up_to most) value ∙ cond-true (nat_le n most) _ _ (le-leb n most low)

@@ -1,5 +1,6 @@
 -- Character-strings in quotes, read again.
-use Rattle.std.proofs.Common.{◌≡◌, ◌∙◌, ℕ, ◌+◌, ◌*◌, ◌/◌, ◌%◌, ◌<◌, ◌≤◌, List, [], ◌∷◌, ◌++◌, length, Bool, true, false, Some, refl, ap, subst, sym, inl, inr, arith, append_assoc, length-append}
+use Rattle.std.proofs.Common.{◌≡◌, ◌∙◌, ℕ, ◌+◌, ◌*◌, ◌/◌, ◌%◌, ◌<◌, ◌≤◌, List, [], ◌∷◌, ◌++◌, length, Bool, true, false}
+use Rattle.std.proofs.Common.{Some, refl, ap, subst, sym, inl, inr, arith, append_assoc, length-append}
 use Rattle.std.specs.Prelude.{nat_le, not, ◌==◌, ◌&&◌, ◌||◌, is_some}
 use Rattle.std.specs.Char.{is_ascii_digit}
 use Rattle.std.specs.List.{AllByRecursion, flat_map}
@@ -17,13 +18,17 @@ use Rattle.zone_token.proofs.TextLemmas.{bytes_before, undone-step}
 pub digit_is : (n : ℕ) → n ≤ 9 → is_ascii_digit (48 + n) ≡ true
 digit_is n h = and_from _ _ (le-leb 48 (48 + n) (omega arith)) (le-leb (48 + n) 57 (omega arith))
 
--- three digits behind a backslash
-pub escaped-decimal : (x y z : ℕ) (rest : List ℕ) → is_ascii_digit x ≡ true → is_ascii_digit y ≡ true → is_ascii_digit z ≡ true → decimal_of x y z ≤ 255 → escaped_byte (x ∷ y ∷ z ∷ rest) ≡ Some (decimal_of x y z, 3)
+-- three digits after a backslash
+pub escaped-decimal : (x y z : ℕ) (rest : List ℕ) → is_ascii_digit x ≡ true → is_ascii_digit y ≡ true
+    → is_ascii_digit z ≡ true → decimal_of x y z ≤ 255 → escaped_byte (x ∷ y ∷ z ∷ rest) ≡ Some (decimal_of x y z, 3)
 escaped-decimal x y z rest hx hy hz small =
-    cond-true (is_ascii_digit x) _ _ hx ∙ cond-true (is_ascii_digit y && is_ascii_digit z && nat_le (decimal_of x y z) 255) _ _ (and_from _ _ (and_from _ _ hy hz) (le-leb (decimal_of x y z) 255 small))
+    cond-true (is_ascii_digit x) _ _ hx
+    ∙ cond-true (is_ascii_digit y && is_ascii_digit z && nat_le (decimal_of x y z) 255) _ _
+    (and_from _ _ (and_from _ _ hy hz) (le-leb (decimal_of x y z) 255 small))
 
--- the scan of a quoted token goes on behind a byte
-goes : (escaped : Bool) (size byte : ℕ) (rest : List ℕ) → (byte == line_feed) ≡ false → (not escaped && byte == quote) ≡ false → is_in_quotes escaped (byte ∷ rest) ≡ true
+-- the scan of a quoted token goes on after a byte
+goes : (escaped : Bool) (size byte : ℕ) (rest : List ℕ) → (byte == line_feed) ≡ false
+    → (not escaped && byte == quote) ≡ false → is_in_quotes escaped (byte ∷ rest) ≡ true
     → quoted_from escaped size (byte ∷ rest) ≡ quoted_from (not escaped && byte == backslash) (size + 1) rest
 goes escaped size byte rest line closing inside =
     cond-false (byte == line_feed) _ _ line ∙ cond-false (not escaped && byte == quote) _ _ closing ∙ cond-true (is_in_quotes escaped (byte ∷ rest)) _ _ inside
@@ -42,7 +47,8 @@ Passes-plain byte line closing escape may size rest =
     goes false size byte rest line closing (and_from _ _ may refl) ∙ ap (λ e. quoted_from e (size + 1) rest) escape
 
 Passes-digit : (n : ℕ) → n ≤ 9 → Passes ((48 + n) ∷ [])
-Passes-digit n h = Passes-plain (48 + n) (ne_eqb (48 + n) 10 (λ e. omega (arith, e))) (ne_eqb (48 + n) 34 (λ e. omega (arith, e))) (ne_eqb (48 + n) 92 (λ e. omega (arith, e))) (grind (arith, nat_tests))
+Passes-digit n h = Passes-plain (48 + n) (ne_eqb (48 + n) 10 (λ e. omega (arith, e)))
+    (ne_eqb (48 + n) 34 (λ e. omega (arith, e))) (ne_eqb (48 + n) 92 (λ e. omega (arith, e))) (grind (arith, nat_tests))
 
 Passes-decimal : (a b c : ℕ) → a ≤ 9 → b ≤ 9 → c ≤ 9 → 100 * a + 10 * b + c ≤ 255 → Passes (92 ∷ (48 + a) ∷ (48 + b) ∷ (48 + c) ∷ [])
 Passes-decimal a b c ha hb hc small size rest =
@@ -83,7 +89,8 @@ Undoes-decimal byte small rest =
     let x = 48 + byte / 100 in let y = 48 + byte / 10 % 10 in let z = 48 + byte % 10 in
     let value : decimal_of x y z ≡ byte = omega arith in
     undone-step (92 ∷ x ∷ y ∷ z ∷ rest) byte 3 (omega arith)
-    (escaped-decimal x y z rest (digit_is (byte / 100) (omega arith)) (digit_is (byte / 10 % 10) (omega arith)) (digit_is (byte % 10) (omega arith)) (omega arith)
+    (escaped-decimal x y z rest (digit_is (byte / 100) (omega arith)) (digit_is (byte / 10 % 10) (omega arith))
+    (digit_is (byte % 10) (omega arith)) (omega arith)
     ∙ ap (λ v. Some (v, 3)) value)
 
 Undoes-quoted_byte : (byte : ℕ) → byte < 256 → Undoes byte (quoted_byte byte)

@@ -1,7 +1,10 @@
-use Rattle.std.proofs.Common.{◌≡◌, ◌∙◌, ℕ, ◌-◌, ◌<◌, ◌≤◌, List, [], ◌∷◌, ◌++◌, length, take, drop, map, true, Option, None, Result, Ok, Err, refl, sym, ap, inl, inr, subst, arith, append_assoc, length-append}
+use Rattle.std.proofs.Common.{◌≡◌, ◌∙◌, ℕ, ◌+◌, ◌-◌, ◌<◌, ◌≤◌, List, [], ◌∷◌, ◌++◌, length, take, drop, map, true}
+use Rattle.std.proofs.Common.{Option, None, Result, Ok, Err, refl, sym, ap, inl, inr, subst, arith, append_assoc}
+use Rattle.std.proofs.Common.{length-append}
 use Rattle.std.specs.Prelude.{◌==◌, ◌&&◌, min}
 use Rattle.std.specs.List.{list_all}
-use Rattle.std.proofs.lemmas.List.{append-nil, drop-append-le, length-take, length-drop, take_all, take-append-drop}
+use Rattle.std.proofs.lemmas.List.{append-nil, length-take, length-drop, take_all, take-append-drop}
+use Rattle.std.proofs.lemmas.List.Concat.{flat_map-append}
 use Rattle.std.proofs.Math.Seq.{drop-append_seam, take-append_seam}
 use Rattle.std.proofs.lemmas.Bool.{and_parts, eqb-true}
 use Rattle.dns_name.specs.Name.{Labels}
@@ -10,7 +13,7 @@ use Rattle.dns_wire.specs.declared.record.Record as wire
 use Rattle.zone_token.specs.Entries.{beginning, entries_from, entries_of, ended_from, ended_of, last_entry}
 use Rattle.zone_text.specs.Zone.{most_bytes, Break, BreaksSoFar, ZoneSays, ZoneBreaks, Are}
 use Rattle.zone_text.specs.Reading.{Read, unread, step, run, rest_from, rest_of, said_of, is_plain, ◌>>=◌}
-use Rattle.zone_text.specs.Fed.{Fed}
+use Rattle.zone_text.specs.Fed.{Fed, fed_text}
 use Rattle.zone_text.specs.Read.{seen, IsReading}
 use Rattle.zone_text.specs.declared.progress.Progress.{Progress}
 use Rattle.zone_token.specs.declared.spot.Spot.{Spot}
@@ -18,88 +21,142 @@ use Rattle.zone_token.specs.declared.fault.TextWhy.{TextWhy}
 use Rattle.zone_token.specs.declared.fault.TextWhy.TheVariants.{TooLarge}
 use Rattle.zone_text.specs.declared.fault.TextFault.{TextFault}
 use Rattle.zone_text.proofs.RunLemmas.{run-append, run-done, run-say, run-break, break-run, break-more}
-use Rattle.zone_text.proofs.EntryLemmas.{entries-split, ended-split, rest-split, too_large, run-over}
-
--- what a text was left with, where more stands behind it
-begun-is : (text piece : List ℕ) (size : ℕ) → size ≤ length text → take (length text - size) (drop size (text ++ piece)) ≡ drop size text
-begun-is text piece size within =
-    let left : length text - size ≡ length (drop {A = ℕ} size text) = omega (arith, length-drop size text) in
-    ap (take {A = ℕ} (length text - size)) (drop-append-le size text piece within)
-    ∙ ap (λ n. take n (drop {A = ℕ} size text ++ piece)) left ∙ take-append_seam (drop {A = ℕ} size text) piece
+use Rattle.zone_text.proofs.EntryLemmas.{entries-split, ended-split, rest-split, kept, too_large, run-over}
 
 -- the entries that end in more text are those that ended before and those of what was left
-ended-more : (text piece : List ℕ) (size : ℕ) (spot : Spot) → rest_of text ≡ (drop size text, spot) → ended_of (text ++ piece) ≡ ended_of text ++ ended_from (drop size text) spot piece
-ended-more text piece size spot rest =
+ended-more : (text piece left : List ℕ) (spot : Spot) → rest_of text ≡ (left, spot) → ended_of (text ++ piece) ≡ ended_of text ++ ended_from left spot piece
+ended-more text piece left spot rest =
     ended-split [] beginning text piece ∙ ap (λ (r : List ℕ × Spot). ended_of text ++ ended_from r.0 r.1 piece) rest
 
-rest-more : (text piece : List ℕ) (size : ℕ) (spot : Spot) → rest_of text ≡ (drop size text, spot) → rest_of (text ++ piece) ≡ rest_from (drop size text) spot piece
-rest-more text piece size spot rest =
+rest-more : (text piece left : List ℕ) (spot : Spot) → rest_of text ≡ (left, spot) → rest_of (text ++ piece) ≡ rest_from left spot piece
+rest-more text piece left spot rest =
     rest-split [] beginning text piece ∙ ap (λ (r : List ℕ × Spot). rest_from r.0 r.1 piece) rest
 
-entries-more : (text piece : List ℕ) (size : ℕ) (spot : Spot) → rest_of text ≡ (drop size text, spot) → entries_of (text ++ piece) ≡ ended_of text ++ entries_from (drop size text) spot piece
-entries-more text piece size spot rest =
+entries-more : (text piece left : List ℕ) (spot : Spot) → rest_of text ≡ (left, spot)
+    → entries_of (text ++ piece) ≡ ended_of text ++ entries_from left spot piece
+entries-more text piece left spot rest =
     entries-split [] beginning text piece ∙ ap (λ (r : List ℕ × Spot). ended_of text ++ entries_from r.0 r.1 piece) rest
 
--- entries behind those that were read
-run-behind : (origin : Labels) (read : Read) (some more : List (List ℕ)) → run (unread origin) some ≡ Ok read → run (unread origin) (some ++ more) ≡ run read more
-run-behind origin read some more is = run-append (unread origin) some more ∙ ap (λ (o : Result Read TextFault). o >>= λ n. run n more) is
+-- entries after those that were read
+run-after : (origin : Labels) (read : Read) (some more : List (List ℕ)) → run (unread origin) some ≡ Ok read
+    → run (unread origin) (some ++ more) ≡ run read more
+run-after origin read some more is = run-append (unread origin) some more ∙ ap (λ (o : Result Read TextFault). o >>= λ n. run n more) is
 
--- what a scan from the old text's end starts with
-pub scan-from : (text whole piece : List ℕ) (size at : ℕ) → whole ≡ text ++ piece → at ≡ length text → size ≤ length text → (take (at - size) (drop size whole) ≡ drop size text) × (drop at whole ≡ piece)
-scan-from text whole piece size at is place within = (
-  ap (λ n. take n (drop {A = ℕ} size whole)) (ap (λ n. n - size) place) ∙ ap (λ (t : List ℕ). take (length text - size) (drop size t)) is ∙ begun-is text piece size within,
-  ap (λ n. drop n whole) place ∙ ap (drop {A = ℕ} (length text)) is ∙ drop-append_seam text piece,
-)
+-- what was read and what is left have the bytes of the text
+read-size : (origin : Labels) (text left : List ℕ) (read : Read) (spot : Spot)
+    → run (unread origin) (ended_of text) ≡ Ok read → rest_of text ≡ (left, spot)
+    → read.size + length left ≡ length text
+read-size origin text left read spot ended rest =
+    let d = run-done (unread origin) read (ended_of text) ended in
+    let all = kept [] beginning text in
+    let same : length (rest_of text).0 ≡ length left = ap (λ (r : List ℕ × Spot). length r.0) rest in
+    omega (arith, d.size, all, same)
+
+-- the entries of a text and a piece that ended are read
+pieces-read : (origin : Labels) (text piece begun : List ℕ) (old new : Progress) (spot : Spot)
+    → IsReading origin text old begun spot → run (seen old) (ended_from begun spot piece) ≡ Ok (seen new)
+    → run (unread origin) (ended_of (text ++ piece)) ≡ Ok (seen new)
+pieces-read origin text piece begun old new spot reading ended =
+    ap (run (unread origin)) (ended-more text piece begun spot reading.rest)
+    ∙ run-after origin (seen old) (ended_of text) (ended_from begun spot piece) reading.ended ∙ ended
 
 -- one piece more is read
-pub piece_read : (origin : Labels) (text whole piece : List ℕ) (old new : Progress) (spot last : Spot) → IsReading origin text old spot → whole ≡ text ++ piece → run (seen old) (ended_from (drop old.size text) spot piece) ≡ Ok (seen new) → rest_from (drop old.size text) spot piece ≡ (drop new.size whole, last) → new.size ≤ length whole → length whole ≤ most_bytes → IsReading origin whole new last
-piece_read origin text whole piece old new spot last reading is ended rest within small = record {
-  ended = ap (λ t. run (unread origin) (ended_of t)) is ∙ ap (run (unread origin)) (ended-more text piece old.size spot reading.rest)
-      ∙ run-behind origin (seen old) (ended_of text) (ended_from (drop old.size text) spot piece) reading.ended ∙ ended;
-  rest = ap rest_of is ∙ rest-more text piece old.size spot reading.rest ∙ rest;
-  within = within;
-  small = small;
-}
+pub piece_read : (begun piece left : List ℕ) (old new : Progress) (spot last : Spot)
+    → run (seen old) (ended_from begun spot piece) ≡ Ok (seen new) → rest_from begun spot piece ≡ (left, last)
+    → new.size + length left ≤ most_bytes → (origin : Labels) (text : List ℕ) → IsReading origin text old begun spot
+    → IsReading origin (text ++ piece) new left last
+piece_read begun piece left old new spot last ended rest small origin text reading =
+    let read = pieces-read origin text piece begun old new spot reading ended in
+    let kept = rest-more text piece begun spot reading.rest ∙ rest in
+    let size = read-size origin (text ++ piece) left (seen new) last read kept in
+    record { ended = read; rest = kept; small = omega (arith, size) }
 
 -- an entry that ended in a piece is broken, whatever follows
-pub piece_broken : (origin : Labels) (text piece more : List ℕ) (old : Progress) (spot : Spot) (fault : TextFault) → IsReading origin text old spot → run (seen old) (ended_from (drop old.size text) spot piece) ≡ Err fault → BreaksSoFar (text ++ (piece ++ more)) origin fault.line fault.why
-piece_broken origin text piece more old spot fault reading ended =
+pub piece_broken : (begun piece : List ℕ) (old : Progress) (spot : Spot) (fault : TextFault)
+    → run (seen old) (ended_from begun spot piece) ≡ Err fault → (origin : Labels) (text more : List ℕ)
+    → IsReading origin text old begun spot → BreaksSoFar (text ++ (piece ++ more)) origin fault.line fault.why
+piece_broken begun piece old spot fault ended origin text more reading =
     let broken : run (unread origin) (ended_of (text ++ piece)) ≡ Err fault =
-    ap (run (unread origin)) (ended-more text piece old.size spot reading.rest) ∙ run-behind origin (seen old) (ended_of text) (ended_from (drop old.size text) spot piece) reading.ended ∙ ended in
+    ap (run (unread origin)) (ended-more text piece begun spot reading.rest)
+    ∙ run-after origin (seen old) (ended_of text) (ended_from begun spot piece) reading.ended ∙ ended in
     let rest = rest_of (text ++ piece) in
     let P : List (List ℕ) → Type 0 = λ es. Break origin es fault.line fault.why in
-    inl (subst P (sym (ap ended_of (sym (append_assoc text piece more)) ∙ ended-split [] beginning (text ++ piece) more)) (break-more origin (ended_of (text ++ piece)) (ended_from rest.0 rest.1 more) fault.line fault.why (run-break origin (ended_of (text ++ piece)) fault broken)))
+    inl (subst P
+    (sym (ap ended_of (sym (append_assoc text piece more)) ∙ ended-split [] beginning (text ++ piece) more))
+    (break-more origin (ended_of (text ++ piece)) (ended_from rest.0 rest.1 more) fault.line fault.why
+    (run-break origin (ended_of (text ++ piece)) fault broken)))
 
 -- a piece goes past the last byte, whatever follows
-pub piece_over : (origin : Labels) (text whole piece more : List ℕ) (old new : Progress) (spot last : Spot) → IsReading origin text old spot → whole ≡ text ++ piece → run (seen old) (ended_from (drop old.size text) spot piece) ≡ Ok (seen new) → rest_from (drop old.size text) spot piece ≡ (drop new.size whole, last) → new.size ≤ length whole → most_bytes < length whole → BreaksSoFar (text ++ (piece ++ more)) origin new.line TooLarge
-piece_over origin text whole piece more old new spot last reading is ended rest within over =
-    let read : run (unread origin) (ended_of whole) ≡ Ok (seen new) =
-    ap (λ t. run (unread origin) (ended_of t)) is ∙ ap (run (unread origin)) (ended-more text piece old.size spot reading.rest)
-    ∙ run-behind origin (seen old) (ended_of text) (ended_from (drop old.size text) spot piece) reading.ended ∙ ended in
-    let left : rest_of whole ≡ (drop new.size whole, last) = ap rest_of is ∙ rest-more text piece old.size spot reading.rest ∙ rest in
-    let d = run-done (unread origin) (seen new) (ended_of whole) read in
-    let size : new.size ≤ most_bytes = d.small (omega arith) in
-    let rest_length = length-drop new.size whole in
+pub piece_over : (begun piece left : List ℕ) (old new : Progress) (spot last : Spot)
+    → run (seen old) (ended_from begun spot piece) ≡ Ok (seen new) → rest_from begun spot piece ≡ (left, last)
+    → new.size ≤ most_bytes → most_bytes < new.size + length left → (origin : Labels) (text more : List ℕ)
+    → IsReading origin text old begun spot → BreaksSoFar (text ++ (piece ++ more)) origin new.line TooLarge
+piece_over begun piece left old new spot last ended rest within over origin text more reading =
+    let whole = text ++ piece in
+    let read = pieces-read origin text piece begun old new spot reading ended in
+    let kept : rest_of whole ≡ (left, last) = rest-more text piece begun spot reading.rest ∙ rest in
+    let size = read-size origin whole left (seen new) last read kept in
     let broken : run (unread origin) (entries_of (whole ++ more)) ≡ too_large new.line =
-    ap (run (unread origin)) (entries-more whole more new.size last left) ∙ run-behind origin (seen new) (ended_of whole) (entries_from (drop new.size whole) last more) read
-    ∙ run-over (seen new) (drop new.size whole) last more (omega (arith, rest_length)) (omega (arith, rest_length)) in
-    let same : whole ++ more ≡ text ++ (piece ++ more) = ap (λ t. t ++ more) is ∙ append_assoc text piece more in
+    ap (run (unread origin)) (entries-more whole more left last kept) ∙ run-after origin (seen new) (ended_of whole) (entries_from left last more) read
+    ∙ run-over (seen new) left last more (omega arith) (omega arith) in
+    let same : whole ++ more ≡ text ++ (piece ++ more) = append_assoc text piece more in
     let P : List ℕ → Type 0 = λ t. Break origin (entries_of t) new.line TooLarge in
-    inr (omega (arith, ap length (sym same), length-append whole more), subst P same (run-break origin (entries_of (whole ++ more)) (record { line = new.line; why = TooLarge }) broken))
+    inr (
+      omega (arith, ap length (sym same), size, length-append whole more),
+      subst P same (run-break origin (entries_of (whole ++ more))
+          (record { line = new.line; why = TooLarge }) broken),
+    )
+
+-- the same, over the bytes that a reader holds, of which those from a place on came last
+pub advance_broken : (left slice : List ℕ) (at : ℕ) (old : Progress) (spot : Spot) (fault : TextFault) → slice ≡ left
+    → run (seen old) (ended_from (take at slice) spot (drop at slice)) ≡ Err fault
+    → (origin : Labels) (text more : List ℕ) → IsReading origin text old (take at left) spot
+    → BreaksSoFar (text ++ (drop at left ++ more)) origin fault.line fault.why
+advance_broken left slice at old spot fault is ended =
+    let P : List ℕ → Type 0 = λ t. run (seen old) (ended_from (take at t) spot (drop at t)) ≡ Err fault in
+    piece_broken (take at left) (drop at left) old spot fault (subst P is ended)
+
+pub advance_over : (left slice : List ℕ) (at from : ℕ) (old new : Progress) (spot last : Spot) → slice ≡ left
+    → run (seen old) (ended_from (take at slice) spot (drop at slice)) ≡ Ok (seen new)
+    → rest_from (take at slice) spot (drop at slice) ≡ (drop from slice, last) → new.size ≤ most_bytes
+    → most_bytes - new.size < length left - from → (origin : Labels) (text more : List ℕ)
+    → IsReading origin text old (take at left) spot
+    → BreaksSoFar (text ++ (drop at left ++ more)) origin new.line TooLarge
+advance_over left slice at from old new spot last is ended rest within over =
+    let P : List ℕ → Type 0 = λ t. run (seen old) (ended_from (take at t) spot (drop at t)) ≡ Ok (seen new) in
+    let Q : List ℕ → Type 0 = λ t. rest_from (take at t) spot (drop at t) ≡ (drop from t, last) in
+    piece_over (take at left) (drop at left) (drop from left) old new spot last (subst P is ended)
+    (subst Q is rest) within (omega (arith, over, length-drop from left))
+
+pub advance_read : (left slice rest_now : List ℕ) (at from : ℕ) (old new : Progress) (spot last : Spot) → slice ≡ left
+    → run (seen old) (ended_from (take at slice) spot (drop at slice)) ≡ Ok (seen new)
+    → rest_from (take at slice) spot (drop at slice) ≡ (drop from slice, last) → new.size ≤ most_bytes
+    → length left - from ≤ most_bytes - new.size → rest_now ≡ drop from left → (origin : Labels) (text : List ℕ)
+    → IsReading origin text old (take at left) spot → IsReading origin (text ++ drop at left) new rest_now last
+advance_read left slice rest_now at from old new spot last is ended rest within small dropped origin text reading =
+    let P : List ℕ → Type 0 = λ t. run (seen old) (ended_from (take at t) spot (drop at t)) ≡ Ok (seen new) in
+    let Q : List ℕ → Type 0 = λ t. rest_from (take at t) spot (drop at t) ≡ (drop from t, last) in
+    let R : List ℕ → Type 0 = λ l. IsReading origin (text ++ drop at left) new l last in
+    subst R (sym dropped)
+    (piece_read (take at left) (drop at left) (drop from left) old new spot last (subst P is ended) (subst Q is rest)
+    (omega (arith, small, length-drop from left)) origin text reading)
 
 -- a text that is being read is not broken so far
-pub not_broken : (origin : Labels) (text : List ℕ) (progress : Progress) (spot : Spot) (line : ℕ) (why : TextWhy) → IsReading origin text progress spot → BreaksSoFar text origin line why → ⊥
-not_broken origin text progress spot line why reading (inl b) =
+pub not_broken : (origin : Labels) (text left : List ℕ) (progress : Progress) (spot : Spot) (line : ℕ) (why : TextWhy)
+    → IsReading origin text progress left spot → BreaksSoFar text origin line why → ⊥
+not_broken origin text left progress spot line why reading (inl b) =
     let c = break-run origin (ended_of text) line why b in
     let d : run (unread origin) (ended_of text) ≡ Ok (seen progress) = reading.ended in
     cc
-not_broken origin text progress spot line why reading (inr b) = omega (arith, reading.small, b.0)
+not_broken origin text left progress spot line why reading (inr b) = omega (arith, reading.small, b.0)
 
 -- what is left at the end is the last entry
-pub entries-whole : (origin : Labels) (text : List ℕ) (progress : Progress) (spot : Spot) → IsReading origin text progress spot → run (unread origin) (entries_of text) ≡ run (seen progress) (last_entry (drop progress.size text))
-entries-whole origin text progress spot reading =
-    ap (λ t. run (unread origin) (entries_of t)) (sym (append-nil text)) ∙ ap (run (unread origin)) (entries-more text [] progress.size spot reading.rest)
-    ∙ run-behind origin (seen progress) (ended_of text) (last_entry (drop progress.size text)) reading.ended
+pub entries-whole : (origin : Labels) (text left : List ℕ) (progress : Progress) (spot : Spot)
+    → IsReading origin text progress left spot
+    → run (unread origin) (entries_of text) ≡ run (seen progress) (last_entry left)
+entries-whole origin text left progress spot reading =
+    ap (λ t. run (unread origin) (entries_of t)) (sym (append-nil text)) ∙ ap (run (unread origin)) (entries-more text [] left spot reading.rest)
+    ∙ run-after origin (seen progress) (ended_of text) (last_entry left) reading.ended
 
 pub last-none : (read : Read) (left : List ℕ) → length left ≡ 0 → run read (last_entry left) ≡ Ok read
 last-none read [] none = refl
@@ -129,94 +186,164 @@ are-said (one ∷ records) plain =
     )
 
 -- a text that was read says its records
-pub text_said : (text : List ℕ) (origin : Labels) (progress : Progress) → run (unread origin) (entries_of text) ≡ Ok (seen progress) → list_all is_plain progress.records ≡ true → ZoneSays text origin progress.records
+pub text_said : (text : List ℕ) (origin : Labels) (progress : Progress)
+    → run (unread origin) (entries_of text) ≡ Ok (seen progress) → list_all is_plain progress.records ≡ true
+    → ZoneSays text origin progress.records
 text_said text origin progress is plain = record {
   statements = map said_of progress.records;
   say = run-say origin (entries_of text) (seen progress) is;
   records_are = are-said progress.records plain;
 }
 
--- the same, as the scan tells it
-scanned-ended : (text whole piece : List ℕ) (at : ℕ) (old : Progress) (spot : Spot) → whole ≡ text ++ piece → at ≡ length text → old.size ≤ length text → ended_from (drop old.size text) spot piece ≡ ended_from (take (at - old.size) (drop old.size whole)) spot (drop at whole)
-scanned-ended text whole piece at old spot is place within =
-    let s = scan-from text whole piece old.size at is place within in
-    sym (ap (λ b. ended_from b spot (drop {A = ℕ} at whole)) s.0 ∙ ap (ended_from (drop {A = ℕ} old.size text) spot) s.1)
-
-scanned-rest : (text whole piece : List ℕ) (at : ℕ) (old : Progress) (spot : Spot) → whole ≡ text ++ piece → at ≡ length text → old.size ≤ length text → rest_from (drop old.size text) spot piece ≡ rest_from (take (at - old.size) (drop old.size whole)) spot (drop at whole)
-scanned-rest text whole piece at old spot is place within =
-    let s = scan-from text whole piece old.size at is place within in
-    sym (ap (λ b. rest_from b spot (drop {A = ℕ} at whole)) s.0 ∙ ap (rest_from (drop {A = ℕ} old.size text) spot) s.1)
-
-pub advance_broken : (text whole piece : List ℕ) (at : ℕ) (old : Progress) (spot : Spot) (fault : TextFault) → whole ≡ text ++ piece → at ≡ length text → old.size ≤ length text → run (seen old) (ended_from (take (at - old.size) (drop old.size whole)) spot (drop at whole)) ≡ Err fault → (origin : Labels) (more : List ℕ) → IsReading origin text old spot → BreaksSoFar (text ++ (piece ++ more)) origin fault.line fault.why
-advance_broken text whole piece at old spot fault is place within ended origin more reading =
-    piece_broken origin text piece more old spot fault reading (ap (run (seen old)) (scanned-ended text whole piece at old spot is place within) ∙ ended)
-
-pub advance_read : (text whole piece : List ℕ) (at : ℕ) (old new : Progress) (spot last : Spot) → whole ≡ text ++ piece → at ≡ length text → old.size ≤ length text → run (seen old) (ended_from (take (at - old.size) (drop old.size whole)) spot (drop at whole)) ≡ Ok (seen new) → rest_from (take (at - old.size) (drop old.size whole)) spot (drop at whole) ≡ (drop new.size whole, last) → new.size ≤ length whole → length whole ≤ most_bytes → (origin : Labels) → IsReading origin text old spot → IsReading origin whole new last
-advance_read text whole piece at old new spot last is place within ended rest inside small origin reading =
-    piece_read origin text whole piece old new spot last reading is (ap (run (seen old)) (scanned-ended text whole piece at old spot is place within) ∙ ended) (scanned-rest text whole piece at old spot is place within ∙ rest) inside small
-
-pub advance_over : (text whole piece : List ℕ) (at : ℕ) (old new : Progress) (spot last : Spot) → whole ≡ text ++ piece → at ≡ length text → old.size ≤ length text → run (seen old) (ended_from (take (at - old.size) (drop old.size whole)) spot (drop at whole)) ≡ Ok (seen new) → rest_from (take (at - old.size) (drop old.size whole)) spot (drop at whole) ≡ (drop new.size whole, last) → new.size ≤ length whole → most_bytes < length whole → (origin : Labels) (more : List ℕ) → IsReading origin text old spot → BreaksSoFar (text ++ (piece ++ more)) origin new.line TooLarge
-advance_over text whole piece at old new spot last is place within ended rest inside over origin more reading =
-    piece_over origin text whole piece more old new spot last reading is (ap (run (seen old)) (scanned-ended text whole piece at old spot is place within) ∙ ended) (scanned-rest text whole piece at old spot is place within ∙ rest) inside over
-
 -- the end of a text
-pub finish_none : (text : List ℕ) (progress : Progress) (left : List ℕ) → left ≡ drop progress.size text → length left ≡ 0 → (origin : Labels) (spot : Spot) → IsReading origin text progress spot → run (unread origin) (entries_of text) ≡ Ok (seen progress)
-finish_none text progress left is none origin spot reading =
-    entries-whole origin text progress spot reading ∙ ap (λ l. run (seen progress) (last_entry l)) (sym is) ∙ last-none (seen progress) left none
+pub finish_none : (progress : Progress) (left : List ℕ) → length left ≡ 0
+    → (origin : Labels) (text : List ℕ) (spot : Spot) → IsReading origin text progress left spot
+    → run (unread origin) (entries_of text) ≡ Ok (seen progress)
+finish_none progress left none origin text spot reading = entries-whole origin text left progress spot reading ∙ last-none (seen progress) left none
 
-pub finish_some : (text : List ℕ) (progress : Progress) (left : List ℕ) (r : Result Read TextFault) → left ≡ drop progress.size text → 0 < length left → step (seen progress) left ≡ r → (origin : Labels) (spot : Spot) → IsReading origin text progress spot → run (unread origin) (entries_of text) ≡ r
-finish_some text progress left r is some read origin spot reading =
-    entries-whole origin text progress spot reading ∙ ap (λ l. run (seen progress) (last_entry l)) (sym is) ∙ last-some (seen progress) left r some read
+pub finish_some : (progress : Progress) (left : List ℕ) (r : Result Read TextFault) → 0 < length left
+    → step (seen progress) left ≡ r → (origin : Labels) (text : List ℕ) (spot : Spot)
+    → IsReading origin text progress left spot → run (unread origin) (entries_of text) ≡ r
+finish_some progress left r some read origin text spot reading =
+    entries-whole origin text left progress spot reading ∙ last-some (seen progress) left r some read
 
 -- what the reader's fields tell of what it was fed
-abbrev pub fed_of : Labels → List ℕ → Option TextFault → Fed
-fed_of origin text fault = record { origin = origin; text = text; fault = fault }
+abbrev pub fed_of : Labels → List (List ℕ × ℕ) → Option TextFault → Fed
+fed_of origin pieces fault = record { origin = origin; text = fed_text pieces; fault = fault }
 
-pub end_breaks : (fed : Fed) (origin : Labels) (text slice : List ℕ) (told : Option TextFault) (progress : Progress) (spot : Spot) (fault : TextFault) → fed_of origin text told ≡ fed → fed.fault ≡ None → slice ≡ text → (told ≡ None → IsReading origin text progress spot) → ((o : Labels) (s : Spot) → IsReading o slice progress s → run (unread o) (entries_of slice) ≡ Err fault) → ZoneBreaks fed.text fed.origin fault.line fault.why
-end_breaks fed origin text slice told progress spot fault view none is reading stops =
+-- a reader that was fed nothing
+pub nothing_fed : (origin : Labels) (pieces : List (List ℕ × ℕ)) (left : List ℕ) (progress : Progress) (spot : Spot)
+    → pieces ≡ [] → left ≡ [] → seen progress ≡ unread origin → spot ≡ beginning
+    → IsReading origin (fed_text pieces) progress left spot
+nothing_fed origin pieces left progress spot none empty fresh first =
+    let P : List (List ℕ × ℕ) → Type 0 = λ ps. IsReading origin (fed_text ps) progress left spot in
+    subst P (sym none) (record {
+      ended = ap Ok (sym fresh);
+      rest = λ i. (sym empty i, sym first i);
+      small = omega arith;
+    })
+
+pub end_breaks : (fed : Fed) (origin : Labels) (pieces : List (List ℕ × ℕ)) (left slice : List ℕ)
+    (told : Option TextFault) (progress : Progress) (spot : Spot) (fault : TextFault) → fed_of origin pieces told ≡ fed
+    → fed.fault ≡ None → slice ≡ left → (told ≡ None → IsReading origin (fed_text pieces) progress left spot)
+    → ((o : Labels) (t : List ℕ) (s : Spot) → IsReading o t progress slice s
+    → run (unread o) (entries_of t) ≡ Err fault) → ZoneBreaks fed.text fed.origin fault.line fault.why
+end_breaks fed origin pieces left slice told progress spot fault view none is reading stops =
     let here : told ≡ None = ap (λ (f : Fed). f.fault) view ∙ none in
-    let P : List ℕ → Type 0 = λ t. IsReading origin t progress spot in
-    let broken = run-break origin (entries_of slice) fault (stops origin spot (subst P (sym is) (reading here))) in
-    let Q : List ℕ → Type 0 = λ t. ZoneBreaks t origin fault.line fault.why in
+    let P : List ℕ → Type 0 = λ l. IsReading origin (fed_text pieces) progress l spot in
+    let broken = run-break origin (entries_of (fed_text pieces)) fault (stops origin (fed_text pieces) spot (subst P (sym is) (reading here))) in
     let R : Fed → Type 0 = λ f. ZoneBreaks f.text f.origin fault.line fault.why in
-    subst R view (subst Q is broken)
+    subst R view broken
 
-pub end_says : (fed : Fed) (origin : Labels) (text slice : List ℕ) (told : Option TextFault) (progress new : Progress) (spot : Spot) → fed_of origin text told ≡ fed → told ≡ None → slice ≡ text → (told ≡ None → IsReading origin text progress spot) → ((o : Labels) (s : Spot) → IsReading o slice progress s → run (unread o) (entries_of slice) ≡ Ok (seen new)) → list_all is_plain new.records ≡ true → ZoneSays fed.text fed.origin new.records
-end_says fed origin text slice told progress new spot view none is reading reads plain =
-    let P : List ℕ → Type 0 = λ t. IsReading origin t progress spot in
-    let says = text_said slice origin new (reads origin spot (subst P (sym is) (reading none))) plain in
-    let Q : List ℕ → Type 0 = λ t. ZoneSays t origin new.records in
+pub end_says : (fed : Fed) (origin : Labels) (pieces : List (List ℕ × ℕ)) (left slice : List ℕ)
+    (told : Option TextFault) (progress new : Progress) (spot : Spot) → fed_of origin pieces told ≡ fed → told ≡ None
+    → slice ≡ left → (told ≡ None → IsReading origin (fed_text pieces) progress left spot)
+    → ((o : Labels) (t : List ℕ) (s : Spot) → IsReading o t progress slice s
+    → run (unread o) (entries_of t) ≡ Ok (seen new)) → list_all is_plain new.records ≡ true
+    → ZoneSays fed.text fed.origin new.records
+end_says fed origin pieces left slice told progress new spot view none is reading reads plain =
+    let P : List ℕ → Type 0 = λ l. IsReading origin (fed_text pieces) progress l spot in
+    let says = text_said (fed_text pieces) origin new (reads origin (fed_text pieces) spot (subst P (sym is) (reading none))) plain in
     let R : Fed → Type 0 = λ f. ZoneSays f.text f.origin new.records in
-    subst R view (subst Q is says)
+    subst R view says
 
 -- a piece that fits was not cut
-uncut : (text new piece : List ℕ) (size : ℕ) → new ≡ text ++ take size piece → size ≡ min (length piece) 67_108_865 → length new ≤ most_bytes → new ≡ text ++ piece
-uncut text new piece size is cut small =
-    let whole : size ≡ length piece = omega (arith, ap length is, length-append text (take size piece), length-take size piece) in
-    is ∙ ap (λ t. text ++ t) (ap (λ n. take n piece) whole ∙ take_all (length piece) piece (omega arith))
+uncut : (text piece : List ℕ) (size : ℕ) → size ≡ min (length piece) 67_108_865
+    → length (text ++ take size piece) ≤ most_bytes → text ++ take size piece ≡ text ++ piece
+uncut text piece size cut small =
+    let whole : size ≡ length piece = omega (arith, length-append text (take size piece), length-take size piece) in
+    ap (λ t. text ++ t) (ap (λ n. take n piece) whole ∙ take_all (length piece) piece (omega arith))
 
-pub feed_sound : (fed : Fed) (origin : Labels) (text new piece : List ℕ) (size : ℕ) (told : Option TextFault) (old progress : Progress) (spot last : Spot) → fed_of origin text told ≡ fed → told ≡ None → (told ≡ None → IsReading origin text old spot) → ((o : Labels) → IsReading o text old spot → IsReading o new progress last) → new ≡ text ++ take size piece → size ≡ min (length piece) 67_108_865 → (line : ℕ) (why : TextWhy) → BreaksSoFar (fed.text ++ piece) fed.origin line why → ⊥
-feed_sound fed origin text new piece size told old progress spot last view none reading reads is cut line why breaks =
-    let now = reads origin (reading none) in
-    let whole : new ≡ text ++ piece = uncut text new piece size is cut now.small in
+-- what a feed holds: the entry that has not ended and then the piece, as far as it was taken
+pub record Held (pieces now : List (List ℕ × ℕ)) (left held piece : List ℕ) (at size : ℕ) : Type 0 where
+  pub held_is : held ≡ left ++ take size piece
+  pub at_is : at ≡ length left
+  pub now_is : now ≡ pieces ++ (held, at) ∷ []
+  pub size_is : size ≡ min (length piece) 67_108_865
+
+held-left : (left held more : List ℕ) (at : ℕ) → held ≡ left ++ more → at ≡ length left → take at held ≡ left
+held-left left held more at is place = ap (λ n. take n held) place ∙ ap (take {A = ℕ} (length left)) is ∙ take-append_seam left more
+
+held-piece : (left held more : List ℕ) (at : ℕ) → held ≡ left ++ more → at ≡ length left → drop at held ≡ more
+held-piece left held more at is place = ap (λ n. drop n held) place ∙ ap (drop {A = ℕ} (length left)) is ∙ drop-append_seam left more
+
+-- the text that was fed is longer by it
+fed-more : (pieces now : List (List ℕ × ℕ)) (left held piece : List ℕ) (at size : ℕ)
+    → Held pieces now left held piece at size → fed_text now ≡ fed_text pieces ++ take size piece
+fed-more pieces now left held piece at size h =
+    ap fed_text h.now_is ∙ flat_map-append (λ (p : List ℕ × ℕ). drop p.1 p.0) pieces ((held, at) ∷ [])
+    ∙ ap (λ t. fed_text pieces ++ t) (append-nil (drop at held) ∙ held-piece left held (take size piece) at h.held_is h.at_is)
+
+-- what is read after a feed
+feed-reads : (origin : Labels) (pieces now : List (List ℕ × ℕ)) (left held new piece : List ℕ) (at size : ℕ)
+    (told : Option TextFault) (old progress : Progress) (spot last : Spot) → Held pieces now left held piece at size
+    → told ≡ None → (told ≡ None → IsReading origin (fed_text pieces) old left spot)
+    → ((o : Labels) (t : List ℕ) → IsReading o t old (take at held) spot
+    → IsReading o (t ++ drop at held) progress new last)
+    → IsReading origin (fed_text pieces ++ take size piece) progress new last
+feed-reads origin pieces now left held new piece at size told old progress spot last h none reading reads =
+    let P : List ℕ → Type 0 = λ l. IsReading origin (fed_text pieces) old l spot in
+    let Q : List ℕ → Type 0 = λ l. IsReading origin (fed_text pieces ++ l) progress new last in
+    subst Q (held-piece left held (take size piece) at h.held_is h.at_is)
+    (reads origin (fed_text pieces) (subst P (sym (held-left left held (take size piece) at h.held_is h.at_is)) (reading none)))
+
+pub feed_reading : (origin : Labels) (pieces now : List (List ℕ × ℕ)) (left held new piece : List ℕ) (at size : ℕ)
+    (told : Option TextFault) (old progress : Progress) (spot last : Spot) → Held pieces now left held piece at size
+    → told ≡ None → (told ≡ None → IsReading origin (fed_text pieces) old left spot)
+    → ((o : Labels) (t : List ℕ) → IsReading o t old (take at held) spot
+    → IsReading o (t ++ drop at held) progress new last) → IsReading origin (fed_text now) progress new last
+feed_reading origin pieces now left held new piece at size told old progress spot last h none reading reads =
+    let P : List ℕ → Type 0 = λ t. IsReading origin t progress new last in
+    subst P (sym (fed-more pieces now left held piece at size h))
+    (feed-reads origin pieces now left held new piece at size told old progress spot last h none reading reads)
+
+pub feed_fed : (fed : Fed) (origin : Labels) (pieces now : List (List ℕ × ℕ)) (left held new piece : List ℕ)
+    (at size : ℕ) (told : Option TextFault) (old progress : Progress) (spot last : Spot)
+    → fed_of origin pieces told ≡ fed → Held pieces now left held piece at size → told ≡ None
+    → (told ≡ None → IsReading origin (fed_text pieces) old left spot)
+    → ((o : Labels) (t : List ℕ) → IsReading o t old (take at held) spot
+    → IsReading o (t ++ drop at held) progress new last)
+    → fed_of origin now told ≡ record fed { text = fed.text ++ piece }
+feed_fed fed origin pieces now left held new piece at size told old progress spot last view h none reading reads =
+    let whole = feed-reads origin pieces now left held new piece at size told old progress spot last h none reading reads in
+    let same = uncut (fed_text pieces) piece size h.size_is whole.small in
+    let made : List ℕ → Fed = λ t. record { origin = origin; text = t; fault = told } in
+    ap made (fed-more pieces now left held piece at size h ∙ same) ∙ ap (λ (f : Fed). record f { text = f.text ++ piece }) view
+
+pub feed_sound : (fed : Fed) (origin : Labels) (pieces now : List (List ℕ × ℕ)) (left held new piece : List ℕ)
+    (at size : ℕ) (told : Option TextFault) (old progress : Progress) (spot last : Spot)
+    → fed_of origin pieces told ≡ fed → Held pieces now left held piece at size → told ≡ None
+    → (told ≡ None → IsReading origin (fed_text pieces) old left spot)
+    → ((o : Labels) (t : List ℕ) → IsReading o t old (take at held) spot
+    → IsReading o (t ++ drop at held) progress new last) → (line : ℕ) (why : TextWhy)
+    → BreaksSoFar (fed.text ++ piece) fed.origin line why → ⊥
+feed_sound fed origin pieces now left held new piece at size told old progress spot last view h none reading reads line why breaks =
+    let whole = feed-reads origin pieces now left held new piece at size told old progress spot last h none reading reads in
+    let same = uncut (fed_text pieces) piece size h.size_is whole.small in
     let P : List ℕ → Type 0 = λ t. BreaksSoFar t origin line why in
     let R : Fed → Type 0 = λ f. BreaksSoFar (f.text ++ piece) f.origin line why in
-    not_broken origin new progress last line why now (subst P (sym whole) (subst R (sym view) breaks))
+    not_broken origin (fed_text pieces ++ take size piece) new progress last line why whole (subst P (sym same) (subst R (sym view) breaks))
 
-pub feed_broken : (fed : Fed) (origin : Labels) (text piece : List ℕ) (size : ℕ) (told : Option TextFault) (old : Progress) (spot : Spot) (fault : TextFault) → fed_of origin text told ≡ fed → fed.fault ≡ None → (told ≡ None → IsReading origin text old spot) → ((o : Labels) (more : List ℕ) → IsReading o text old spot → BreaksSoFar (text ++ (take size piece ++ more)) o fault.line fault.why) → BreaksSoFar (fed.text ++ piece) fed.origin fault.line fault.why
-feed_broken fed origin text piece size told old spot fault view none reading breaks =
+pub feed_within : (origin : Labels) (pieces now : List (List ℕ × ℕ)) (left held new piece : List ℕ) (at size : ℕ)
+    (told : Option TextFault) (old progress : Progress) (spot last : Spot) → Held pieces now left held piece at size
+    → told ≡ None → (told ≡ None → IsReading origin (fed_text pieces) old left spot)
+    → ((o : Labels) (t : List ℕ) → IsReading o t old (take at held) spot
+    → IsReading o (t ++ drop at held) progress new last) → length (fed_text now) ≤ most_bytes
+feed_within origin pieces now left held new piece at size told old progress spot last h none reading reads =
+    let now_reads = feed_reading origin pieces now left held new piece at size told old progress spot last h none reading reads in
+    now_reads.small
+
+pub feed_broken : (fed : Fed) (origin : Labels) (pieces : List (List ℕ × ℕ)) (left held piece : List ℕ) (at size : ℕ)
+    (told : Option TextFault) (old : Progress) (spot : Spot) (fault : TextFault) → fed_of origin pieces told ≡ fed
+    → fed.fault ≡ None → held ≡ left ++ take size piece → at ≡ length left
+    → (told ≡ None → IsReading origin (fed_text pieces) old left spot)
+    → ((o : Labels) (t more : List ℕ) → IsReading o t old (take at held) spot
+    → BreaksSoFar (t ++ (drop at held ++ more)) o fault.line fault.why)
+    → BreaksSoFar (fed.text ++ piece) fed.origin fault.line fault.why
+feed_broken fed origin pieces left held piece at size told old spot fault view none is place reading breaks =
     let here : told ≡ None = ap (λ (f : Fed). f.fault) view ∙ none in
-    let P : List ℕ → Type 0 = λ t. BreaksSoFar (text ++ t) origin fault.line fault.why in
+    let I : List ℕ → Type 0 = λ l. IsReading origin (fed_text pieces) old l spot in
+    let P : List ℕ → Type 0 = λ t. BreaksSoFar (fed_text pieces ++ t) origin fault.line fault.why in
     let R : Fed → Type 0 = λ f. BreaksSoFar (f.text ++ piece) f.origin fault.line fault.why in
-    subst R view (subst P (take-append-drop size piece) (breaks origin (drop size piece) (reading here)))
-
-pub feed_fed : (fed : Fed) (origin : Labels) (text new piece : List ℕ) (size : ℕ) (told : Option TextFault) (old progress : Progress) (spot last : Spot) → fed_of origin text told ≡ fed → told ≡ None → (told ≡ None → IsReading origin text old spot) → ((o : Labels) → IsReading o text old spot → IsReading o new progress last) → new ≡ text ++ take size piece → size ≡ min (length piece) 67_108_865 → fed_of origin new told ≡ record fed { text = fed.text ++ piece }
-feed_fed fed origin text new piece size told old progress spot last view none reading reads is cut =
-    let now = reads origin (reading none) in
-    let whole : new ≡ text ++ piece = uncut text new piece size is cut now.small in
-    ap (λ t. fed_of origin t told) whole ∙ ap (λ (f : Fed). fed_of f.origin (f.text ++ piece) f.fault) view
-
-pub feed_within : (origin : Labels) (text new : List ℕ) (told : Option TextFault) (old progress : Progress) (spot last : Spot) → told ≡ None → (told ≡ None → IsReading origin text old spot) → ((o : Labels) → IsReading o text old spot → IsReading o new progress last) → length new ≤ most_bytes
-feed_within origin text new told old progress spot last none reading reads =
-    let now = reads origin (reading none) in
-    now.small
+    subst R view (subst P (ap (λ t. t ++ drop size piece) (held-piece left held (take size piece) at is place) ∙ take-append-drop size piece)
+    (breaks origin (fed_text pieces) (drop size piece) (subst I (sym (held-left left held (take size piece) at is place)) (reading here))))

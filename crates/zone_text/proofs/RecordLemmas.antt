@@ -7,7 +7,7 @@ use Rattle.dns_wire.specs.declared.content.Content.{Content}
 use Rattle.dns_wire.specs.declared.content.Content.TheVariants as content
 use Rattle.dns_wire.specs.declared.record.Record as wire
 use Rattle.zone_token.specs.Entries.{entries_of}
-use Rattle.zone_text.specs.Zone.{most_bytes, beginning_with, standing_behind, Mean, statements_of, Is, Are, Say, Break, ZoneSays, ZoneBreaks, BreaksSoFar}
+use Rattle.zone_text.specs.Zone.{most_bytes, beginning_with, advanced, Mean, statements_of, Is, Are, Say, Break, ZoneSays, ZoneBreaks, BreaksSoFar}
 use Rattle.zone_text.specs.Meaning.{is_whole_meaning}
 use Rattle.zone_text.specs.declared.meaning.Standing.{Standing}
 use Rattle.zone_text.specs.declared.meaning.Statement.{Statement}
@@ -39,10 +39,19 @@ made owner ttl c of class fits = record { owner = owner; kind = of; class = clas
 -- the record that is stated
 record-exists : (said : Statement) → is_whole said.content ≡ true → (one : wire.Record) × Is one said
 record-exists said whole =
-    let one : wire.Record = record { owner = said.owner; kind = kind_of said.content; class = internet; ttl = said.ttl; content = said.content; belongs = belongs-whole said.content whole } in
+    let one : wire.Record = record {
+      owner = said.owner;
+      kind = kind_of said.content;
+      class = internet;
+      ttl = said.ttl;
+      content = said.content;
+      belongs = belongs-whole said.content whole;
+    } in
     (one, record { owner = refl; kind = refl; class = refl; ttl = refl; content = refl; whole = whole })
 
-records-more : (meaning : Meaning) (meanings : List Meaning) → is_whole_meaning meaning ≡ true → ((records : List wire.Record) × Are records (statements_of meanings)) → (records : List wire.Record) × Are records (statements_of (meaning ∷ meanings))
+records-more : (meaning : Meaning) (meanings : List Meaning) → is_whole_meaning meaning ≡ true
+    → ((records : List wire.Record) × Are records (statements_of meanings))
+    → (records : List wire.Record) × Are records (statements_of (meaning ∷ meanings))
 records-more Nothing meanings whole more = more
 records-more (Origin name) meanings whole more = more
 records-more (DefaultTtl ttl) meanings whole more = more
@@ -51,32 +60,55 @@ records-more (Record said) meanings whole more =
     (first.0 ∷ more.0, (first.1, more.1))
 
 -- entries with meanings state records
-records-exist : (standing : Standing) (entries : List (List ℕ)) (meanings : List Meaning) → Mean standing entries meanings → (records : List wire.Record) × Are records (statements_of meanings)
+records-exist : (standing : Standing) (entries : List (List ℕ)) (meanings : List Meaning)
+    → Mean standing entries meanings → (records : List wire.Record) × Are records (statements_of meanings)
 records-exist standing [] [] mean = ([], tt)
 records-exist standing [] (meaning ∷ meanings) mean = absurd mean
 records-exist standing (entry ∷ entries) [] mean = absurd mean
 records-exist standing (entry ∷ entries) (meaning ∷ meanings) mean =
-    records-more meaning meanings (entry_is_whole standing entry meaning mean.0) (records-exist (standing_behind standing meaning) entries meanings mean.1)
+    records-more meaning meanings (entry_is_whole standing entry meaning mean.0) (records-exist (advanced standing meaning) entries meanings mean.1)
 
 -- a text says records or breaks
-pub reads_or_breaks : (text : List ℕ) (origin : Labels) → ((records : List wire.Record) × ZoneSays text origin records) ⊎ ((line : ℕ) × (why : TextWhy) × ZoneBreaks text origin line why)
+pub reads_or_breaks : (text : List ℕ) (origin : Labels)
+    → ((records : List wire.Record) × ZoneSays text origin records)
+    ⊎ ((line : ℕ) × (why : TextWhy) × ZoneBreaks text origin line why)
 reads_or_breaks text origin = from (say_or_break origin (entries_of text))
   where
-    from : ((statements : List Statement) × Say origin (entries_of text) statements) ⊎ ((line : ℕ) × (why : TextWhy) × Break origin (entries_of text) line why) → ((records : List wire.Record) × ZoneSays text origin records) ⊎ ((line : ℕ) × (why : TextWhy) × ZoneBreaks text origin line why)
+    from : ((statements : List Statement) × Say origin (entries_of text) statements)
+        ⊎ ((line : ℕ) × (why : TextWhy) × Break origin (entries_of text) line why)
+        → ((records : List wire.Record) × ZoneSays text origin records)
+        ⊎ ((line : ℕ) × (why : TextWhy) × ZoneBreaks text origin line why)
     from (inr breaks) = inr breaks
     from (inl says) =
         let say = says.1 in
         let built = records-exist (beginning_with origin) (entries_of text) say.meanings say.mean in
-        inl (built.0, record { statements = statements_of say.meanings; say = record { meanings = say.meanings; mean = say.mean; stated = refl; size = say.size; number = subst (λ (ss : List Statement). length ss ≤ 100_000) say.stated say.number }; records_are = built.1 })
+        inl (
+          built.0,
+          record {
+            statements = statements_of say.meanings;
+            say = record {
+              meanings = say.meanings;
+              mean = say.mean;
+              stated = refl;
+              size = say.size;
+              number = subst (λ (ss : List Statement). length ss ≤ 100_000) say.stated say.number;
+            };
+            records_are = built.1;
+          },
+        )
 
 -- one record is what is stated
-same-fields : (owner : Labels) (ttl : ℕ) (c : Content) (of other class kin : ℕ) (fits : IsTrue (belongs of class c)) (suits : IsTrue (belongs other kin c)) → of ≡ other → class ≡ kin → made owner ttl c of class fits ≡ made owner ttl c other kin suits
+same-fields : (owner : Labels) (ttl : ℕ) (c : Content) (of other class kin : ℕ) (fits : IsTrue (belongs of class c))
+    (suits : IsTrue (belongs other kin c)) → of ≡ other → class ≡ kin
+    → made owner ttl c of class fits ≡ made owner ttl c other kin suits
 same-fields owner ttl c of other class kin fits suits k n =
     let P : ℕ → Type 0 = λ x. (suit : IsTrue (belongs x kin c)) → made owner ttl c of class fits ≡ made owner ttl c x kin suit in
     let Q : ℕ → Type 0 = λ y. (suit : IsTrue (belongs of y c)) → made owner ttl c of class fits ≡ made owner ttl c of y suit in
     subst P k (subst Q n (λ suit. ap (made owner ttl c of class) (Bool-set _ _ fits suit))) suits
 
-same-made : (owner : Labels) (ttl : ℕ) (c : Content) (of class : ℕ) (fits : IsTrue (belongs of class c)) (name : Labels) (time : ℕ) (d : Content) (other kin : ℕ) (suits : IsTrue (belongs other kin d)) → owner ≡ name → ttl ≡ time → c ≡ d → of ≡ other → class ≡ kin → made owner ttl c of class fits ≡ made name time d other kin suits
+same-made : (owner : Labels) (ttl : ℕ) (c : Content) (of class : ℕ) (fits : IsTrue (belongs of class c))
+    (name : Labels) (time : ℕ) (d : Content) (other kin : ℕ) (suits : IsTrue (belongs other kin d)) → owner ≡ name
+    → ttl ≡ time → c ≡ d → of ≡ other → class ≡ kin → made owner ttl c of class fits ≡ made name time d other kin suits
 same-made owner ttl c of class fits name time d other kin suits o t x k n =
     let P : Labels → Type 0 = λ y. made owner ttl c of class fits ≡ made y time d other kin suits in
     let Q : ℕ → Type 0 = λ y. made owner ttl c of class fits ≡ made owner y d other kin suits in
@@ -86,7 +118,8 @@ same-made owner ttl c of class fits name time d other kin suits o t x k n =
 same-record : (one other : wire.Record) (said : Statement) → Is one said → Is other said → one ≡ other
 same-record one other said first second =
     same-made one.owner one.ttl one.content one.kind one.class one.belongs other.owner other.ttl other.content other.kind other.class other.belongs
-    (first.owner ∙ sym second.owner) (first.ttl ∙ sym second.ttl) (first.content ∙ sym second.content) (first.kind ∙ sym second.kind) (first.class ∙ sym second.class)
+    (first.owner ∙ sym second.owner) (first.ttl ∙ sym second.ttl) (first.content ∙ sym second.content)
+    (first.kind ∙ sym second.kind) (first.class ∙ sym second.class)
 
 same-records : (some others : List wire.Record) (statements : List Statement) → Are some statements → Are others statements → some ≡ others
 same-records [] [] [] first second = refl
@@ -109,6 +142,8 @@ one_list text origin some others first second =
 pub too_long : (text : List ℕ) (origin : Labels) → most_bytes < length text → (line : ℕ) × (why : TextWhy) × BreaksSoFar text origin line why
 too_long text origin over = from (say_or_break origin (entries_of text))
   where
-    from : ((statements : List Statement) × Say origin (entries_of text) statements) ⊎ ((line : ℕ) × (why : TextWhy) × Break origin (entries_of text) line why) → (line : ℕ) × (why : TextWhy) × BreaksSoFar text origin line why
+    from : ((statements : List Statement) × Say origin (entries_of text) statements)
+        ⊎ ((line : ℕ) × (why : TextWhy) × Break origin (entries_of text) line why)
+        → (line : ℕ) × (why : TextWhy) × BreaksSoFar text origin line why
     from (inl says) = absurd (omega (arith, says.1.size, entries-bytes text, over))
     from (inr breaks) = (breaks.0, breaks.1, inr (omega (arith, over), breaks.2))

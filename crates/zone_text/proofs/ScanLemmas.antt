@@ -1,12 +1,10 @@
-use Rattle.std.proofs.Common.{◌≡◌, ◌∙◌, ℕ, zero, suc, subst, ◌+◌, ◌-◌, ◌<◌, ◌≤◌, List, [], ◌∷◌, ◌++◌, length, get_or, take, drop, true, false, Result, Ok, Err, sym, ap, arith, length-append}
-use Rattle.std.proofs.lemmas.List.{drop_more, take_more, get_or-drop, length-take, length-drop}
+use Rattle.std.proofs.Common.{◌≡◌, ◌∙◌, ℕ, zero, suc, subst, ◌+◌, ◌-◌, ◌<◌, ◌≤◌, List, [], ◌∷◌, ◌++◌, length, get_or}
+use Rattle.std.proofs.Common.{take, drop, true, false, Result, Ok, Err, refl, sym, ap, arith}
+use Rattle.std.proofs.lemmas.List.{drop_more, take_more, take_all, get_or-drop, length-drop}
 use Rattle.std.proofs.lemmas.Bool.{cond-true, cond-false}
-use Rattle.zone_token.specs.Entries.{beginning, behind, ends_entry, ended_from, still_size}
+use Rattle.zone_token.specs.Entries.{beginning, after, ends_entry, ended_from, still_size}
 use Rattle.zone_token.proofs.SpotLemmas.{Stays, stays}
-use Rattle.zone_text.specs.Reading.{Read, read_behind, on_line, run, step, rest_from, ◌>>=◌}
-use Rattle.zone_text.specs.Zone.{entry_within}
-use Rattle.zone_text.specs.declared.meaning.Meaning.{Meaning}
-use Rattle.zone_token.specs.declared.fault.TextWhy.{TextWhy}
+use Rattle.zone_text.specs.Reading.{Read, run, step, rest_from, ◌>>=◌}
 use Rattle.zone_token.specs.declared.spot.Spot.{Spot}
 use Rattle.zone_text.specs.declared.fault.TextFault.{TextFault}
 
@@ -14,17 +12,12 @@ use Rattle.zone_text.specs.declared.fault.TextFault.{TextFault}
 abbrev pub between : List ℕ → ℕ → ℕ → List ℕ
 between text from to = take (to - from) (drop from text)
 
--- a scan from a beginning has come to a place: what is left gives what everything gave
-pub record Scanned (text : List ℕ) (read : Read) (begun : List ℕ) (spot : Spot) (left : List ℕ) (now : Read) (last : Spot) (at : ℕ) : Type 0 where
-  pub ended : run now (ended_from (between text now.size at) last (drop at text)) ≡ run read (ended_from begun spot left)
-  pub rest : rest_from (between text now.size at) last (drop at text) ≡ rest_from begun spot left
-  pub within : now.size ≤ at
+-- a scan from a beginning has come to a place, and the entry at hand begins at another: what is left gives what everything gave
+pub record Scanned (text : List ℕ) (read : Read) (begun : List ℕ) (spot : Spot) (left : List ℕ) (now : Read) (from : ℕ) (last : Spot) (at : ℕ) : Type 0 where
+  pub ended : run now (ended_from (between text from at) last (drop at text)) ≡ run read (ended_from begun spot left)
+  pub rest : rest_from (between text from at) last (drop at text) ≡ rest_from begun spot left
+  pub within : from ≤ at
   pub inside : at ≤ length text
-
--- what one entry more adds to the size
-size_behind : (read next : Read) (entry : List ℕ) (meaning : Result Meaning TextWhy) → on_line read.line meaning (λ m. Ok (read_behind read entry m)) ≡ Ok next → next.size ≡ read.size + length entry
-size_behind read next entry (Ok m) is = let e : read_behind read entry m ≡ next = cc in ap (λ (r : Read). r.size) (sym e)
-size_behind read next entry (Err why) is = cc
 
 -- one byte more of a text
 between-more : (text : List ℕ) (from at : ℕ) → from ≤ at → at < length text → between text from (at + 1) ≡ between text from at ++ get_or text at 0 ∷ []
@@ -35,54 +28,58 @@ between-more text from at below inside =
     ap (λ n. take n (drop {A = ℕ} from text)) longer ∙ take_more (drop {A = ℕ} from text) (at - from) 0 within
     ∙ ap (λ b. take (at - from) (drop {A = ℕ} from text) ++ b ∷ []) (get_or-drop from text (at - from) 0 ∙ ap (λ n. get_or text n 0) place)
 
-between-length : (text : List ℕ) (from at : ℕ) → from ≤ at → at ≤ length text → length (between text from at) ≡ at - from
-between-length text from at below inside = omega (arith, length-take (at - from) (drop {A = ℕ} from text), length-drop from text)
-
 between-none : (text : List ℕ) (from at : ℕ) → from ≡ at → between text from at ≡ []
 between-none text from at is = ap (λ n. take n (drop {A = ℕ} from text)) (let e : at - from ≡ 0 = omega arith in e)
 
 -- what is left, by its first byte
-ended-goes : (begun : List ℕ) (spot : Spot) (byte : ℕ) (rest : List ℕ) → ends_entry spot byte ≡ false → ended_from begun spot (byte ∷ rest) ≡ ended_from (begun ++ byte ∷ []) (behind spot byte) rest
+ended-goes : (begun : List ℕ) (spot : Spot) (byte : ℕ) (rest : List ℕ) → ends_entry spot byte ≡ false
+    → ended_from begun spot (byte ∷ rest) ≡ ended_from (begun ++ byte ∷ []) (after spot byte) rest
 ended-goes begun spot byte rest test = cond-false _ _ _ test
 
-ended-ends : (begun : List ℕ) (spot : Spot) (byte : ℕ) (rest : List ℕ) → ends_entry spot byte ≡ true → ended_from begun spot (byte ∷ rest) ≡ (begun ++ byte ∷ []) ∷ ended_from [] beginning rest
+ended-ends : (begun : List ℕ) (spot : Spot) (byte : ℕ) (rest : List ℕ) → ends_entry spot byte ≡ true
+    → ended_from begun spot (byte ∷ rest) ≡ (begun ++ byte ∷ []) ∷ ended_from [] beginning rest
 ended-ends begun spot byte rest test = cond-true _ _ _ test
 
-rest-goes : (begun : List ℕ) (spot : Spot) (byte : ℕ) (rest : List ℕ) → ends_entry spot byte ≡ false → rest_from begun spot (byte ∷ rest) ≡ rest_from (begun ++ byte ∷ []) (behind spot byte) rest
+rest-goes : (begun : List ℕ) (spot : Spot) (byte : ℕ) (rest : List ℕ) → ends_entry spot byte ≡ false
+    → rest_from begun spot (byte ∷ rest) ≡ rest_from (begun ++ byte ∷ []) (after spot byte) rest
 rest-goes begun spot byte rest test = cond-false _ _ _ test
 
-rest-ends : (begun : List ℕ) (spot : Spot) (byte : ℕ) (rest : List ℕ) → ends_entry spot byte ≡ true → rest_from begun spot (byte ∷ rest) ≡ rest_from [] beginning rest
+rest-ends : (begun : List ℕ) (spot : Spot) (byte : ℕ) (rest : List ℕ) → ends_entry spot byte ≡ true
+    → rest_from begun spot (byte ∷ rest) ≡ rest_from [] beginning rest
 rest-ends begun spot byte rest test = cond-true _ _ _ test
 
--- the scan goes on behind a byte that ends no entry
-pub scan_goes_on : (text : List ℕ) (read : Read) (begun : List ℕ) (spot : Spot) (left : List ℕ) (now : Read) (last : Spot) (at : ℕ) → Scanned text read begun spot left now last at → at < length text → ends_entry last (get_or text at 0) ≡ false → Scanned text read begun spot left now (behind last (get_or text at 0)) (at + 1)
-scan_goes_on text read begun spot left now last at s below test =
+-- the scan goes on after a byte that ends no entry
+pub scan_goes_on : (text : List ℕ) (read : Read) (begun : List ℕ) (spot : Spot) (left : List ℕ) (now : Read) (from : ℕ)
+    (last : Spot) (at : ℕ) → Scanned text read begun spot left now from last at → at < length text
+    → ends_entry last (get_or text at 0) ≡ false
+    → Scanned text read begun spot left now from (after last (get_or text at 0)) (at + 1)
+scan_goes_on text read begun spot left now from last at s below test =
     let byte = get_or text at 0 in
     let here : drop at text ≡ byte ∷ drop (at + 1) text = drop_more text at 0 below in
-    let more : between text now.size (at + 1) ≡ between text now.size at ++ byte ∷ [] = between-more text now.size at s.within below in
+    let more : between text from (at + 1) ≡ between text from at ++ byte ∷ [] = between-more text from at s.within below in
     record {
       ended =
-          ap (λ b. run now (ended_from b (behind last byte) (drop (at + 1) text))) more
-          ∙ ap (run now) (sym (ended-goes (between text now.size at) last byte (drop (at + 1) text) test))
-          ∙ ap (λ t. run now (ended_from (between text now.size at) last t)) (sym here) ∙ s.ended;
+          ap (λ b. run now (ended_from b (after last byte) (drop (at + 1) text))) more
+          ∙ ap (run now) (sym (ended-goes (between text from at) last byte (drop (at + 1) text) test))
+          ∙ ap (λ t. run now (ended_from (between text from at) last t)) (sym here) ∙ s.ended;
       rest =
-          ap (λ b. rest_from b (behind last byte) (drop (at + 1) text)) more
-          ∙ sym (rest-goes (between text now.size at) last byte (drop (at + 1) text) test)
-          ∙ ap (λ t. rest_from (between text now.size at) last t) (sym here) ∙ s.rest;
+          ap (λ b. rest_from b (after last byte) (drop (at + 1) text)) more
+          ∙ sym (rest-goes (between text from at) last byte (drop (at + 1) text) test)
+          ∙ ap (λ t. rest_from (between text from at) last t) (sym here) ∙ s.rest;
       within = omega (arith, s.within);
       inside = omega arith;
     }
 
--- the scan goes on behind an entry
-pub scan_ends : (text : List ℕ) (read : Read) (begun : List ℕ) (spot : Spot) (left : List ℕ) (now next : Read) (last : Spot) (at : ℕ) → Scanned text read begun spot left now last at → at < length text → ends_entry last (get_or text at 0) ≡ true → step now (between text now.size at ++ get_or text at 0 ∷ []) ≡ Ok next → Scanned text read begun spot left next beginning (at + 1)
-scan_ends text read begun spot left now next last at s below test ok =
+-- the scan goes on after an entry
+pub scan_ends : (text : List ℕ) (read : Read) (begun : List ℕ) (spot : Spot) (left : List ℕ) (now next : Read)
+    (from : ℕ) (last : Spot) (at : ℕ) → Scanned text read begun spot left now from last at → at < length text
+    → ends_entry last (get_or text at 0) ≡ true → step now (between text from at ++ get_or text at 0 ∷ []) ≡ Ok next
+    → Scanned text read begun spot left next (at + 1) beginning (at + 1)
+scan_ends text read begun spot left now next from last at s below test ok =
     let byte = get_or text at 0 in
     let here : drop at text ≡ byte ∷ drop (at + 1) text = drop_more text at 0 below in
-    let begun_now = between text now.size at in
-    let entry = begun_now ++ byte ∷ [] in
-    let grown : next.size ≡ now.size + length entry = size_behind now next entry (entry_within (now.size + length entry) (length now.said) now.standing entry) ok in
-    let size : next.size ≡ at + 1 = omega (arith, grown, s.within, length-append begun_now (byte ∷ []), between-length text now.size at s.within s.inside) in
-    let none : between text next.size (at + 1) ≡ [] = between-none text next.size (at + 1) size in
+    let begun_now = between text from at in
+    let none : between text (at + 1) (at + 1) ≡ [] = between-none text (at + 1) (at + 1) (omega arith) in
     let later = ended_from [] beginning (drop (at + 1) text) in
     record {
       ended =
@@ -94,28 +91,61 @@ scan_ends text read begun spot left now next last at s below test ok =
           ap (λ b. rest_from b beginning (drop (at + 1) text)) none
           ∙ sym (rest-ends begun_now last byte (drop (at + 1) text) test)
           ∙ ap (λ t. rest_from begun_now last t) (sym here) ∙ s.rest;
-      within = omega (arith, size);
+      within = omega arith;
       inside = omega arith;
     }
 
--- the scan goes on behind bytes that leave the spot as it is
-pub scan_skips : (text : List ℕ) (read : Read) (begun : List ℕ) (spot : Spot) (left : List ℕ) (now : Read) (last : Spot) (n at : ℕ) → Scanned text read begun spot left now last at → at + n ≤ length text → ((k : ℕ) → k < n → Stays last (get_or text (at + k) 0)) → Scanned text read begun spot left now last (at + n)
-scan_skips text read begun spot left now last zero at s inside each =
+-- the scan goes on after bytes that leave the spot as it is
+pub scan_skips : (text : List ℕ) (read : Read) (begun : List ℕ) (spot : Spot) (left : List ℕ) (now : Read) (from : ℕ)
+    (last : Spot) (n at : ℕ) → Scanned text read begun spot left now from last at → at + n ≤ length text
+    → ((k : ℕ) → k < n → Stays last (get_or text (at + k) 0)) → Scanned text read begun spot left now from last (at + n)
+scan_skips text read begun spot left now from last zero at s inside each =
     let none : at ≡ at + 0 = omega arith in
-    subst (Scanned text read begun spot left now last) none s
-scan_skips text read begun spot left now last (suc n) at s inside each =
+    subst (Scanned text read begun spot left now from last) none s
+scan_skips text read begun spot left now from last (suc n) at s inside each =
     let none : at + 0 ≡ at = omega arith in
     let sum : at + 1 + n ≡ at + suc n = omega arith in
     let shift : (k : ℕ) → at + suc k ≡ at + 1 + k = λ k. omega arith in
     let stay : Stays last (get_or text at 0) = subst (λ k. Stays last (get_or text k 0)) none (each 0 (omega arith)) in
-    let on = scan_goes_on text read begun spot left now last at s (omega arith) stay.goes in
-    let same = subst (λ spot_now. Scanned text read begun spot left now spot_now (at + 1)) stay.same on in
-    subst (Scanned text read begun spot left now last) sum
-    (scan_skips text read begun spot left now last n (at + 1) same (omega arith) (λ k below. subst (λ i. Stays last (get_or text i 0)) (shift k) (each (suc k) (omega arith))))
+    let on = scan_goes_on text read begun spot left now from last at s (omega arith) stay.goes in
+    let same = subst (λ spot_now. Scanned text read begun spot left now from spot_now (at + 1)) stay.same on in
+    subst (Scanned text read begun spot left now from last) sum
+    (scan_skips text read begun spot left now from last n (at + 1) same (omega arith)
+    (λ k below. subst (λ i. Stays last (get_or text i 0)) (shift k) (each (suc k) (omega arith))))
 
 -- the scan comes to the next byte that may change the spot
-pub scan_turns : (text : List ℕ) (read : Read) (begun : List ℕ) (spot : Spot) (left : List ℕ) (now : Read) (last : Spot) (at next : ℕ) → Scanned text read begun spot left now last at → next ≡ at + still_size last (drop at text) → next ≤ length text → Scanned text read begun spot left now last next
-scan_turns text read begun spot left now last at next s is inside =
+pub scan_turns : (text : List ℕ) (read : Read) (begun : List ℕ) (spot : Spot) (left : List ℕ) (now : Read) (from : ℕ)
+    (last : Spot) (at next : ℕ) → Scanned text read begun spot left now from last at
+    → next ≡ at + still_size last (drop at text) → next ≤ length text
+    → Scanned text read begun spot left now from last next
+scan_turns text read begun spot left now from last at next s is inside =
     let n = still_size last (drop at text) in
-    subst (Scanned text read begun spot left now last) (sym is)
-    (scan_skips text read begun spot left now last n at s (omega (arith, is)) (λ k below. subst (Stays last) (get_or-drop at text k 0) (stays last (drop at text) k below)))
+    subst (Scanned text read begun spot left now from last) (sym is)
+    (scan_skips text read begun spot left now from last n at s (omega (arith, is))
+    (λ k below. subst (Stays last) (get_or-drop at text k 0) (stays last (drop at text) k below)))
+
+-- a scan begins at a place, where the entry at hand begins with the text
+pub scan_begins : (text : List ℕ) (read : Read) (at : ℕ) (spot : Spot) → at ≤ length text → Scanned text read (take at text) spot (drop at text) read 0 spot at
+scan_begins text read at spot inside =
+    let whole : between text 0 at ≡ take at text = ap (λ n. take n (drop {A = ℕ} 0 text)) (let e : at - 0 ≡ at = omega arith in e) in
+    record {
+      ended = ap (λ b. run read (ended_from b spot (drop at text))) whole;
+      rest = ap (λ b. rest_from b spot (drop at text)) whole;
+      within = omega arith;
+      inside = inside;
+    }
+
+-- a scan that has come to the end
+pub scan_done : (text : List ℕ) (read : Read) (begun : List ℕ) (spot : Spot) (left : List ℕ) (now : Read) (from : ℕ)
+    (last : Spot) (at : ℕ) → Scanned text read begun spot left now from last at → length text ≤ at
+    → (run read (ended_from begun spot left) ≡ Ok now) × (rest_from begun spot left ≡ (drop from text, last))
+scan_done text read begun spot left now from last at s past =
+    let none : drop at text ≡ [] = length-zero (drop at text) (omega (arith, length-drop at text)) in
+    let all : between text from at ≡ drop from text = take_all (at - from) (drop from text) (omega (arith, length-drop from text)) in (
+      sym s.ended ∙ ap (λ t. run now (ended_from (between text from at) last t)) none,
+      sym s.rest ∙ ap (λ t. rest_from (between text from at) last t) none ∙ ap (λ b. (b, last)) all,
+    )
+  where
+    length-zero : (xs : List ℕ) → length xs ≡ 0 → xs ≡ []
+    length-zero [] none = refl
+    length-zero (x ∷ xs) none = absurd (omega arith)

@@ -11,7 +11,8 @@ use Rattle.zone_token.specs.Texts.{string_of}
 use Rattle.zone_token.specs.Bytes.{is_blank}
 use Rattle.zone_token.specs.Fields.{name_at, ends_at}
 use Rattle.zone_text.specs.Data.{number_at, a_of, target_of, soa_of, mx_of, strings_of, txt_of, aaaa_of, srv_of, naptr_of, content_of}
-use Rattle.zone_text.specs.Meaning.{head_at, kind_at, ttl_for, statement_of, record_of, origin_of, default_ttl_of, directive_of, is_directive, meaning_of, entry_of, is_whole_meaning}
+use Rattle.zone_text.specs.Meaning.{head_at, kind_at, ttl_for, statement_of, record_of, origin_of, default_ttl_of}
+use Rattle.zone_text.specs.Meaning.{directive_of, is_directive, meaning_of, entry_of, is_whole_meaning}
 use Rattle.zone_text.specs.declared.kind.Kind.{Kind}
 use Rattle.zone_text.specs.declared.kind.Kind.TheVariants as kind
 use Rattle.zone_text.specs.declared.meaning.Standing.{Standing}
@@ -39,19 +40,24 @@ next Q (Ok x) f holds = holds x
 next Q (Err why) f holds = tt
 
 -- the same where something holds of what was read
-next_of : {A B : Type 0} (P : A → Type 0) (Q : B → Type 0) (r : Result A TextWhy) (f : A → Result B TextWhy) → IfOk r P → ((x : A) → P x → IfOk (f x) Q) → IfOk (r >>= f) Q
+next_of : {A B : Type 0} (P : A → Type 0) (Q : B → Type 0) (r : Result A TextWhy) (f : A → Result B TextWhy) → IfOk r P
+    → ((x : A) → P x → IfOk (f x) Q) → IfOk (r >>= f) Q
 next_of P Q (Ok x) f first holds = holds x first
 next_of P Q (Err why) f first holds = tt
 
 mx-whole : (origin : Labels) (fields : List Token) → IfOk (mx_of origin fields) IsWhole
 unfolding mx_of
 mx-whole origin fields =
-    next IsWhole (number_at 65_535 fields 0) _ (λ preference. next IsWhole (name_at BadData origin fields 1) _ (λ exchange. next IsWhole (ends_at fields 2) _ (λ end. refl {A = Bool})))
+    next IsWhole (number_at 65_535 fields 0) _
+    (λ preference. next IsWhole (name_at BadData origin fields 1) _
+    (λ exchange. next IsWhole (ends_at fields 2) _ (λ end. refl {A = Bool})))
 
 srv-whole : (origin : Labels) (fields : List Token) → IfOk (srv_of origin fields) IsWhole
 unfolding srv_of
 srv-whole origin fields =
-    next IsWhole (number_at 65_535 fields 0) _ (λ priority. next IsWhole (number_at 65_535 fields 1) _ (λ weight. next IsWhole (number_at 65_535 fields 2) _ (λ port.
+    next IsWhole (number_at 65_535 fields 0) _
+    (λ priority. next IsWhole (number_at 65_535 fields 1) _
+    (λ weight. next IsWhole (number_at 65_535 fields 2) _ (λ port.
     next IsWhole (name_at BadData origin fields 3) _ (λ target. next IsWhole (ends_at fields 4) _ (λ end. refl {A = Bool})))))
 
 some-more : (string : List ℕ) (strings : List (List ℕ)) → IsSome (string ∷ strings)
@@ -60,7 +66,8 @@ some-more string strings = lt-ltb 0 (length (string ∷ strings)) (omega arith)
 txt-some : (fields : List Token) → IfOk (txt_of fields) IsSome
 unfolding txt_of strings_of
 txt-some [] = tt
-txt-some (token ∷ tokens) = next IsSome (ok_or (string_of token.text) BadData) _ (λ string. next IsSome (strings_of tokens) _ (λ strings. some-more string strings))
+txt-some (token ∷ tokens) = next IsSome (ok_or (string_of token.text) BadData) _
+    (λ string. next IsSome (strings_of tokens) _ (λ strings. some-more string strings))
 
 -- content that is read is whole
 content-whole : (of : Kind) (origin : Labels) (fields : List Token) → IfOk (content_of of origin fields) IsWhole
@@ -79,8 +86,11 @@ content-whole kind.Naptr origin fields = next IsWhole (naptr_of origin fields) _
 statement-whole : (standing : Standing) (owner : Labels) (tokens : List Token) (place : ℕ) → IfOk (statement_of standing owner tokens place) StatesWhole
 unfolding statement_of
 statement-whole standing owner tokens place =
-    next StatesWhole (head_at tokens place) _ (λ head. next StatesWhole (kind_at tokens head.place) _ (λ of. next StatesWhole (ttl_for standing head.ttl of) _ (λ ttl.
-    next_of IsWhole StatesWhole (content_of of standing.origin (drop (head.place + 1) tokens)) _ (content-whole of standing.origin (drop (head.place + 1) tokens)) (λ said whole. whole))))
+    next StatesWhole (head_at tokens place) _
+    (λ head. next StatesWhole (kind_at tokens head.place) _
+    (λ of. next StatesWhole (ttl_for standing head.ttl of) _ (λ ttl.
+    next_of IsWhole StatesWhole (content_of of standing.origin (drop (head.place + 1) tokens)) _
+    (content-whole of standing.origin (drop (head.place + 1) tokens)) (λ said whole. whole))))
 
 record-whole : (standing : Standing) (blank : Bool) (tokens : List Token) → IfOk (record_of standing blank tokens) StatesWhole
 unfolding record_of

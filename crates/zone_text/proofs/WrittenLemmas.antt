@@ -12,16 +12,18 @@ use Rattle.zone_text.specs.FieldsText.{strings_text}
 pub held_front : (held more whole : List ℕ) → whole ≡ held ++ more → take (length held) whole ≡ held
 held_front held more whole is = ap (take (length held)) is ∙ take-append_seam held more
 
--- the items behind the first, taken past their end
-all_behind : {A : Type 0} (rest : List A) (most at : ℕ) → length rest ≤ most → length (take most rest) ≤ at → take at (take most rest) ≡ rest
-all_behind rest most at fits end = take_all at _ end ∙ take_all most rest fits
+-- the items after the first, taken past their end
+all_after : {A : Type 0} (rest : List A) (most at : ℕ) → length rest ≤ most → length (take most rest) ≤ at → take at (take most rest) ≡ rest
+all_after rest most at fits end = take_all at _ end ∙ take_all most rest fits
 
 -- all strings were written
 pub strings_end : (strings : List (List ℕ)) (at : ℕ) → 1 ≤ length strings → length (take (length strings - 1) (drop 1 strings)) ≤ at
-    → quoted (get_or strings 0 []) ++ flat_map (λ string. codes " " ++ quoted string) (take at (take (length strings - 1) (drop 1 strings))) ≡ strings_text strings
+    → quoted (get_or strings 0 [])
+    ++ flat_map (λ string. codes " " ++ quoted string) (take at (take (length strings - 1) (drop 1 strings)))
+    ≡ strings_text strings
 strings_end [] at some end = absurd (omega arith)
 strings_end (first ∷ rest) at some end =
-    ap (λ l. quoted first ++ flat_map (λ string. codes " " ++ quoted string) l) (all_behind rest (length (first ∷ rest) - 1) at (omega arith) end)
+    ap (λ l. quoted first ++ flat_map (λ string. codes " " ++ quoted string) l) (all_after rest (length (first ∷ rest) - 1) at (omega arith) end)
 
 -- two bytes make one group
 pub length-segments : (count : ℕ) (octets : List ℕ) → length octets ≡ count + count → length (segments_of octets) ≡ count
@@ -35,4 +37,4 @@ length-segments (suc count) (a ∷ b ∷ octets) two = ap suc (length-segments c
 pub groups_end : (groups : List ℕ) (at : ℕ) → length groups ≡ 8 → length (take 7 (drop 1 groups)) ≤ at
     → hex (get_or groups 0 0) ++ flat_map (λ group. codes ":" ++ hex group) (take at (take 7 (drop 1 groups))) ≡ groups_text groups
 groups_end [] at eight end = absurd (omega arith)
-groups_end (first ∷ rest) at eight end = ap (λ l. hex first ++ flat_map (λ group. codes ":" ++ hex group) l) (all_behind rest 7 at (omega arith) end)
+groups_end (first ∷ rest) at eight end = ap (λ l. hex first ++ flat_map (λ group. codes ":" ++ hex group) l) (all_after rest 7 at (omega arith) end)

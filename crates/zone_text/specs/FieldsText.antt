@@ -13,7 +13,9 @@ use Rattle.dns_wire.specs.declared.content.Content.TheVariants as content
 -- two names, the serial, and four times in seconds (RFC 1035, 3.3.13)
 abbrev pub soa_text : Soa → List ℕ
 soa_text soa =
-    text_of soa.mname ++ codes " " ++ text_of soa.rname ++ codes " " ++ decimal soa.serial ++ codes " " ++ decimal soa.refresh ++ codes " " ++ decimal soa.retry ++ codes " " ++ decimal soa.expire ++ codes " " ++ decimal soa.minimum
+    text_of soa.mname ++ codes " " ++ text_of soa.rname ++ codes " " ++ decimal soa.serial ++ codes " "
+    ++ decimal soa.refresh ++ codes " " ++ decimal soa.retry ++ codes " " ++ decimal soa.expire ++ codes " "
+    ++ decimal soa.minimum
 
 -- a preference and an exchange (RFC 1035, 3.3.9)
 abbrev pub mx_text : ℕ → List (List ℕ) → List ℕ

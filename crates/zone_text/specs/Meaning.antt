@@ -1,5 +1,7 @@
 -- What one entry means (RFC 1035, section 5.1; RFC 2308, section 4, of `$TTL`).
-use Rattle.std.specs.Prelude.{ℕ, ◌+◌, List, [], ◌∷◌, drop, take, Bool, true, false, ◌&&◌, not, ◌==◌, if◌then◌else◌, bytes_eq, codes, is_some, unwrap_or, option_and_then, ◌||◌, Option, Some, None, Result, Ok, Err}
+use Rattle.std.specs.Prelude.{ℕ, ◌+◌, List, [], ◌∷◌, drop, take, Bool, true, false, ◌&&◌, not, ◌==◌, if◌then◌else◌}
+use Rattle.std.specs.Prelude.{bytes_eq, codes, is_some, unwrap_or, option_and_then, ◌||◌, Option, Some, None, Result}
+use Rattle.std.specs.Prelude.{Ok, Err}
 use Rattle.std.specs.Char.{is_ascii_digit}
 use Rattle.std.specs.Option.{ok_or, option_or}
 use Rattle.dns_name.specs.Name.{Labels}
@@ -65,13 +67,13 @@ unfoldable pub ttl_unless : Option ℕ → List Token → ℕ → Result (Option
 ttl_unless (Some stated) tokens place = Ok None
 ttl_unless None tokens place = ttl_at tokens place
 
--- TTL and class from a place on, each optional, in either order: the TTL, and the place behind them
+-- TTL and class from a place on, each optional, in either order: the TTL, and the place after them
 unfoldable pub head_at : List Token → ℕ → Result Head TextWhy
 head_at tokens place = do
   before ← ttl_at tokens place
   class ← class_at tokens (place + counted (is_some before))
-  behind ← ttl_unless before tokens (place + counted (is_some before) + counted class)
-  Ok (record { ttl = option_or before behind; place = place + counted (is_some before) + counted class + counted (is_some behind) })
+  after ← ttl_unless before tokens (place + counted (is_some before) + counted class)
+  Ok (record { ttl = option_or before after; place = place + counted (is_some before) + counted class + counted (is_some after) })
 
 -- the type of a bare token
 abbrev pub kind_in : Option (List ℕ) → Option Kind
@@ -155,11 +157,11 @@ directive_of origin word tokens =
     else if bytes_eq word (codes "$TTL") then (default_ttl_of tokens >>= λ ttl. Ok (DefaultTtl ttl))
     else Err UnknownDirective
 
--- a directive begins an entry, not behind a blank
+-- a directive begins an entry, not after a blank
 abbrev pub is_directive : Bool → Token → Bool
 is_directive blank token = not blank && not token.quoted && begins_with dollar token.text
 
--- what tokens mean, behind a blank at the beginning of the entry or not
+-- what tokens mean, after a blank at the beginning of the entry or not
 unfoldable pub meaning_of : Standing → Bool → List Token → Result Meaning TextWhy
 meaning_of standing blank [] = Ok Nothing
 meaning_of standing blank (token ∷ tokens) =

@@ -1,5 +1,5 @@
 -- What was read, as the reader has it.
-use Rattle.std.specs.Prelude.{◌≡◌, ◌≤◌, ℕ, List, length, drop, map, Ok}
+use Rattle.std.specs.Prelude.{◌≡◌, ◌≤◌, ℕ, List, length, map, Ok}
 use Rattle.dns_name.specs.Name.{Labels}
 use Rattle.zone_token.specs.Entries.{ended_of}
 use Rattle.zone_text.specs.Zone.{most_bytes}
@@ -12,8 +12,7 @@ abbrev pub seen : Progress → Read
 seen progress = record { standing = progress.standing; line = progress.line; size = progress.size; said = map said_of progress.records }
 
 -- the entries of a text that ended were read, and what is left leads to a spot
-pub record IsReading (origin : Labels) (text : List ℕ) (progress : Progress) (spot : Spot) : Type 0 where
+pub record IsReading (origin : Labels) (text : List ℕ) (progress : Progress) (left : List ℕ) (spot : Spot) : Type 0 where
   pub ended : run (unread origin) (ended_of text) ≡ Ok (seen progress)
-  pub rest : rest_of text ≡ (drop progress.size text, spot)
-  pub within : progress.size ≤ length text
+  pub rest : rest_of text ≡ (left, spot)
   pub small : length text ≤ most_bytes

@@ -3,8 +3,8 @@ use Rattle.std.specs.Prelude.{ℕ, ◌+◌, List, [], ◌∷◌, ◌++◌, lengt
 use Rattle.dns_name.specs.Name.{Labels}
 use Rattle.dns_wire.specs.Kinds.{internet, is_whole, kind_of}
 use Rattle.dns_wire.specs.declared.record.Record as wire
-use Rattle.zone_token.specs.Entries.{beginning, behind, ends_entry}
-use Rattle.zone_text.specs.Zone.{beginning_with, standing_behind, said_in, lines_in, entry_within}
+use Rattle.zone_token.specs.Entries.{beginning, after, ends_entry}
+use Rattle.zone_text.specs.Zone.{beginning_with, advanced, said_in, lines_in, entry_within}
 use Rattle.zone_token.specs.declared.spot.Spot.{Spot}
 use Rattle.zone_text.specs.declared.meaning.Standing.{Standing}
 use Rattle.zone_text.specs.declared.meaning.Statement.{Statement}
@@ -12,7 +12,7 @@ use Rattle.zone_text.specs.declared.meaning.Meaning.{Meaning}
 use Rattle.zone_token.specs.declared.fault.TextWhy.{TextWhy}
 use Rattle.zone_text.specs.declared.fault.TextFault.{TextFault}
 
--- what was read of a text: what stands behind its last entry, the line and the byte behind it, and what was stated
+-- what was read of a text: what stands after its last entry, the line and the byte after it, and what was stated
 pub record Read : Type 0 where
   pub standing : Standing
   pub line : ℕ
@@ -23,10 +23,10 @@ pub record Read : Type 0 where
 abbrev pub unread : Labels → Read
 unread origin = record { standing = beginning_with origin; line = 1; size = 0; said = [] }
 
--- what was read behind an entry of this meaning
-abbrev pub read_behind : Read → List ℕ → Meaning → Read
-read_behind read entry meaning = record {
-  standing = standing_behind read.standing meaning;
+-- what was read after an entry of this meaning
+abbrev pub read_after : Read → List ℕ → Meaning → Read
+read_after read entry meaning = record {
+  standing = advanced read.standing meaning;
   line = read.line + lines_in entry;
   size = read.size + length entry;
   said = read.said ++ said_in meaning;
@@ -40,7 +40,7 @@ on_line line (Err why) next = Err (record { line = line; why = why })
 -- one entry more
 abbrev pub step : Read → List ℕ → Result Read TextFault
 step read entry =
-    on_line read.line (entry_within (read.size + length entry) (length read.said) read.standing entry) (λ meaning. Ok (read_behind read entry meaning))
+    on_line read.line (entry_within (read.size + length entry) (length read.said) read.standing entry) (λ meaning. Ok (read_after read entry meaning))
 
 infixl 10 ◌>>=◌
 abbrev pub ◌>>=◌ : {A B : Type 0} → Result A TextFault → (A → Result B TextFault) → Result B TextFault
@@ -52,11 +52,11 @@ abbrev pub run : Read → List (List ℕ) → Result Read TextFault
 run read [] = Ok read
 run read (entry ∷ entries) = step read entry >>= λ next. run next entries
 
--- what stands behind the entries of a text that ended, and the spot to which it leads
+-- what stands after the entries of a text that ended, and the spot to which it leads
 abbrev pub rest_from : List ℕ → Spot → List ℕ → List ℕ × Spot
 rest_from begun spot [] = (begun, spot)
 rest_from begun spot (byte ∷ rest) =
-    if ends_entry spot byte then rest_from [] beginning rest else rest_from (begun ++ byte ∷ []) (behind spot byte) rest
+    if ends_entry spot byte then rest_from [] beginning rest else rest_from (begun ++ byte ∷ []) (after spot byte) rest
 
 abbrev pub rest_of : List ℕ → List ℕ × Spot
 rest_of text = rest_from [] beginning text

@@ -26,23 +26,23 @@ most_records = 100_000
 abbrev pub beginning_with : Labels → Standing
 beginning_with origin = record { origin = origin; owner = None; default_ttl = None; last_ttl = None }
 
--- what stands behind an entry of this meaning
-abbrev pub standing_behind : Standing → Meaning → Standing
-standing_behind standing Nothing = standing
-standing_behind standing (Origin name) = record standing { origin = name }
-standing_behind standing (DefaultTtl ttl) = record standing { default_ttl = Some ttl }
-standing_behind standing (Record said) = record standing { owner = Some said.owner; last_ttl = Some said.ttl }
+-- what stands after an entry of this meaning
+abbrev pub advanced : Standing → Meaning → Standing
+advanced standing Nothing = standing
+advanced standing (Origin name) = record standing { origin = name }
+advanced standing (DefaultTtl ttl) = record standing { default_ttl = Some ttl }
+advanced standing (Record said) = record standing { owner = Some said.owner; last_ttl = Some said.ttl }
 
--- what stands behind entries of these meanings
+-- what stands after entries of these meanings
 abbrev pub standing_after : Standing → List Meaning → Standing
 standing_after standing [] = standing
-standing_after standing (meaning ∷ meanings) = standing_after (standing_behind standing meaning) meanings
+standing_after standing (meaning ∷ meanings) = standing_after (advanced standing meaning) meanings
 
 -- entries have these meanings, one after another
 abbrev pub Mean : Standing → List (List ℕ) → List Meaning → Type 0
 Mean standing [] [] = ⊤
 Mean standing (entry ∷ entries) (meaning ∷ meanings) =
-    (entry_of standing entry ≡ Ok meaning) × Mean (standing_behind standing meaning) entries meanings
+    (entry_of standing entry ≡ Ok meaning) × Mean (advanced standing meaning) entries meanings
 Mean standing [] (meaning ∷ meanings) = ⊥
 Mean standing (entry ∷ entries) [] = ⊥
 
@@ -80,7 +80,7 @@ Are (one ∷ records) (said ∷ statements) = Is one said × Are records stateme
 Are [] (said ∷ statements) = ⊥
 Are (one ∷ records) [] = ⊥
 
--- what an entry means that is not behind the last byte and states no record too many, or its fault
+-- what an entry means that is not after the last byte and states no record too many, or its fault
 abbrev pub unless_full : ℕ → Meaning → Result Meaning TextWhy
 unless_full number Nothing = Ok Nothing
 unless_full number (Origin name) = Ok (Origin name)
@@ -110,7 +110,8 @@ pub record Break (origin : Labels) (entries : List (List ℕ)) (line : ℕ) (why
   pub size : length (bytes_of front) ≤ most_bytes
   pub number : length (statements_of meanings) ≤ most_records
   pub begins : line ≡ 1 + lines_in (bytes_of front)
-  pub broken : entry_within (length (bytes_of front) + length entry) (length (statements_of meanings)) (standing_after (beginning_with origin) meanings) entry ≡ Err why
+  pub broken : entry_within (length (bytes_of front) + length entry) (length (statements_of meanings))
+      (standing_after (beginning_with origin) meanings) entry ≡ Err why
 
 -- a text says these records
 pub record ZoneSays (text : List ℕ) (origin : Labels) (records : List wire.Record) : Type 0 where

@@ -2,7 +2,8 @@
 ghost use Rattle.std.specs.Prelude.{◌≡◌, ◌<◌, length, IsTrue, IfOk};
 ghost use Rattle.dns_wire.specs.Kinds.{is_whole};
 ghost use Rattle.zone_token.specs.Tokens.{Gives};
-ghost use Rattle.zone_text.specs.Data.{number_at, time_at, quad_at, address_at, string_at, target_of, a_of, aaaa_of, soa_of, mx_of, strings_of, txt_of, srv_of, rule_of, content_of};
+ghost use Rattle.zone_text.specs.Data.{number_at, time_at, quad_at, address_at, string_at, target_of, a_of, aaaa_of};
+ghost use Rattle.zone_text.specs.Data.{soa_of, mx_of, strings_of, txt_of, srv_of, rule_of, content_of};
 ghost use Rattle.zone_token.specs.Texts.{string_of};
 ghost use Rattle.std.specs.Option.{ok_or};
 

@@ -15,7 +15,7 @@ pub struct TextFault {
 }
 
 impl TextFault {
-    /// The line, and the name of the reason behind a space.
+    /// The line, and the name of the reason after a space.
     pub fn words(&self) -> FaultWords
         ensures { result ≡ text_fault self.now }
     {

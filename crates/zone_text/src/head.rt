@@ -103,10 +103,10 @@ impl Head {
         let place = place + counted(before.is_some());
         let class = class_at(tokens, place)?;
         let place = place + counted(class);
-        let behind = ttl_unless(before, tokens, place)?;
-        let place = place + counted(behind.is_some());
+        let after = ttl_unless(before, tokens, place)?;
+        let place = place + counted(after.is_some());
         Ok(Head {
-            ttl: before.or(behind),
+            ttl: before.or(after),
             place,
         })
     }

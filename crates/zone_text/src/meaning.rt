@@ -1,10 +1,10 @@
 //! What an entry means.
-ghost use Rattle.std.specs.Prelude.{◌≡◌, ◌≤◌, ◌+◌, drop, option_and_then, IsTrue, IfOk};
+ghost use Rattle.std.specs.Prelude.{◌≡◌, ◌≤◌, ◌+◌, drop, option_and_then, IsTrue, IfOk, Ok};
 ghost use Rattle.std.specs.Option.{ok_or};
 ghost use Rattle.zone_token.specs.Bytes.{dollar};
 ghost use Rattle.zone_token.specs.Fields.{bare_at};
 ghost use Rattle.zone_token.specs.Times.{time_of};
-ghost use Rattle.zone_token.specs.Tokens.{Gives};
+ghost use Rattle.zone_token.specs.Tokens.{Gives, tokens_of};
 ghost use Rattle.zone_text.specs.Meaning.{begins_with, origin_of, default_ttl_of, minimum_of, is_directive, is_whole_meaning};
 
 use crate::data::read_content;
@@ -13,7 +13,7 @@ use crate::kind::Kind;
 use dns_name::Name;
 use dns_wire::Content;
 use std::alloc::Global;
-use zone_token::{TextWhy, Token, bare_at, ends_at, is_blank, name_at, read_time, read_tokens};
+use zone_token::{TextWhy, Token, bare_at, ends_at, is_blank, name_at, read_time};
 
 /// What stands before an entry.
 #[derive(Clone, Copy, Debug)]
@@ -135,7 +135,7 @@ impl Standing {
         let head = Head::read(tokens, place)?;
         let kind = kind_at(tokens, head.place)?;
         let ttl = self.ttl_for(head.ttl, kind)?;
-        let fields = tokens_behind(tokens, head.place);
+        let fields = tokens_after(tokens, head.place);
         let content = read_content(alloc, kind, &self.origin, fields)?;
         Ok(Meaning::Record(Statement {
             owner: *owner,
@@ -176,7 +176,7 @@ impl Standing {
         }
     }
 
-    // What tokens mean, behind a blank at the beginning of the entry or not.
+    // What tokens mean, after a blank at the beginning of the entry or not.
     #[tactic(auto, unfolding(crate::specs::Meaning::meaning_of))]
     fn read_meaning(&self, alloc: Global, blank: bool, tokens: &[Token]) -> Result<Meaning, TextWhy>
         ensures value { Gives result (meaning_of self.now blank tokens.now) }
@@ -192,19 +192,23 @@ impl Standing {
         }
     }
 
-    /// What an entry means, or its first fault.
+    /// What an entry of these tokens means, or its first fault.
     #[tactic(auto, unfolding(crate::specs::Meaning::entry_of))]
-    pub(crate) fn read_entry(&self, alloc: Global, entry: &[u8]) -> Result<Meaning, TextWhy>
-        ensures value { Gives result (entry_of self.now entry.now) }
+    pub(crate) fn read_entry(
+        &self,
+        alloc: Global,
+        entry: &[u8],
+        tokens: &[Token],
+    ) -> Result<Meaning, TextWhy>
+        ensures value { tokens_of entry.now ≡ Ok tokens.now → Gives result (entry_of self.now entry.now) }
         ensures whole { IfOk result (λ meaning. IsTrue (is_whole_meaning meaning)) }
     {
-        let tokens = read_tokens(alloc, entry)?;
-        self.read_meaning(alloc, is_blank(entry), tokens.as_slice())
+        self.read_meaning(alloc, is_blank(entry), tokens)
     }
 }
 
-// The tokens behind a place.
-fn tokens_behind<'a, 'b>(tokens: &'b [Token<'a>], place: usize) -> &'b [Token<'a>]
+// The tokens after a place.
+fn tokens_after<'a, 'b>(tokens: &'b [Token<'a>], place: usize) -> &'b [Token<'a>]
     requires { place ≤ 4 }
     ensures { result.now ≡ drop (place + 1) tokens.now }
 {

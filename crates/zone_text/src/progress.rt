@@ -3,8 +3,9 @@ ghost use Rattle.std.specs.Prelude.{◌≡◌, ◌≢◌, ◌+◌, ◌∷◌, []
 ghost use Rattle.std.specs.List.{list_all};
 ghost use Rattle.dns_wire.specs.Kinds.{is_whole};
 ghost use Rattle.zone_token.specs.declared.fault.TextWhy.TheVariants.{Memory};
+ghost use Rattle.zone_token.specs.Tokens.{tokens_of};
 ghost use Rattle.zone_text.specs.Meaning.{is_whole_meaning};
-ghost use Rattle.zone_text.specs.Zone.{lines_in, most_bytes, said_in, standing_behind, unless_full};
+ghost use Rattle.zone_text.specs.Zone.{lines_in, most_bytes, said_in, advanced, unless_full};
 ghost use Rattle.zone_text.specs.Reading.{is_plain, said_of};
 
 use crate::fault::TextFault;
@@ -12,7 +13,7 @@ use crate::meaning::{Meaning, Standing, Statement};
 use dns_name::Name;
 use dns_wire::{Record, Records};
 use std::alloc::Global;
-use zone_token::TextWhy;
+use zone_token::{TextWhy, Token, read_tokens};
 
 /// The most bytes of a text: 64 MiB.
 pub(crate) const MOST_BYTES: usize = 67_108_864;
@@ -20,11 +21,11 @@ pub(crate) const MOST_BYTES: usize = 67_108_864;
 // The most records of a text.
 const MOST_RECORDS: usize = 100_000;
 
-/// The entries so far: what stands behind them, where they end, and their records.
+/// The entries so far: what stands after them, where they end, and their records.
 #[derive(Drop)]
 pub(crate) struct Progress {
     pub(crate) standing: Standing,
-    /// The line behind them, counted from 1.
+    /// The line after them, counted from 1.
     pub(crate) line: u32,
     /// How many bytes they have.
     pub(crate) size: usize,
@@ -43,9 +44,9 @@ fn lines_in(bytes: &[u8]) -> usize
 }
 
 impl Standing {
-    // What stands behind an entry of this meaning.
+    // What stands after an entry of this meaning.
     fn advance(&mut self, meaning: &Meaning)
-        ensures { self.new ≡ standing_behind self.old meaning.now }
+        ensures { self.new ≡ advanced self.old meaning.now }
     {
         match meaning {
             Meaning::Nothing => {}
@@ -115,7 +116,40 @@ impl Progress {
     ghost use Rattle.zone_text.specs.Zone.{entry_within};
     ghost use Rattle.zone_text.specs.Reading.{step};
 
-    // One entry more, or why it is broken.
+    /// A fault of the entry that begins here.
+    pub(crate) fn fault(&self, why: TextWhy) -> TextFault
+        ensures { result ≡ record { line = self.now.line; why = why } }
+    {
+        TextFault {
+            line: self.line,
+            why,
+        }
+    }
+
+    // An entry goes by: its lines and its bytes.
+    fn pass(&mut self, entry: &[u8])
+        requires { self.old.size + length entry.now ≤ most_bytes }
+        ensures { seen self.new ≡ record (seen self.old) { line = self.old.line + lines_in entry.now; size = self.old.size + length entry.now } }
+    {
+        self.line += lines_in(entry) as u32;
+        self.size += entry.len();
+    }
+
+    // One entry more of these tokens, or why it is broken.
+    fn read_said(&mut self, alloc: Global, entry: &[u8], tokens: &[Token]) -> Result<(), TextWhy>
+        requires { self.old.size + length entry.now ≤ most_bytes }
+        ensures ok { OnOk result (tokens_of entry.now ≡ Ok tokens.now → step (seen self.old) entry.now ≡ Ok (seen self.new)) }
+        ensures err { IfErr result (λ why. why ≢ Memory → tokens_of entry.now ≡ Ok tokens.now
+            → entry_within (self.old.size + length entry.now) (length self.old.records) self.old.standing entry.now ≡ Err why) }
+    {
+        let meaning = self.standing.read_entry(alloc, entry, tokens)?;
+        self.standing.advance(&meaning);
+        append(&mut self.records, meaning)?;
+        self.pass(entry);
+        Ok(())
+    }
+
+    // One entry more, or why it is broken. One without a token only goes by.
     fn try_read(&mut self, alloc: Global, entry: &[u8]) -> Result<(), TextWhy>
         ensures ok { OnOk result (step (seen self.old) entry.now ≡ Ok (seen self.new)) }
         ensures err { IfErr result (λ why. why ≢ Memory
@@ -124,12 +158,12 @@ impl Progress {
         if entry.len() > MOST_BYTES - self.size {
             return Err(TextWhy::TooLarge);
         }
-        let meaning = self.standing.read_entry(alloc, entry)?;
-        self.standing.advance(&meaning);
-        append(&mut self.records, meaning)?;
-        self.line += lines_in(entry) as u32;
-        self.size += entry.len();
-        Ok(())
+        let tokens = read_tokens(alloc, entry)?;
+        if tokens.as_slice().is_empty() {
+            self.pass(entry);
+            return Ok(());
+        }
+        self.read_said(alloc, entry, tokens.as_slice())
     }
 
     /// One entry more, or its fault with the line on which it begins.

@@ -1,5 +1,5 @@
 //! The reader of zone texts.
-ghost use Rattle.std.specs.Prelude.{◌≡◌, ◌≢◌, ◌++◌, ◌≤◌, [], length, ℕ, List, Some, None, IfOk, IfErr, OnOk};
+ghost use Rattle.std.specs.Prelude.{◌≡◌, ◌≢◌, ◌++◌, ◌≤◌, [], length, take, drop, ℕ, List, Some, None, IfOk, IfErr, OnOk};
 ghost use Rattle.zone_token.specs.declared.fault.TextWhy.{TextWhy as Why};
 ghost use Rattle.zone_token.specs.declared.fault.TextWhy.TheVariants.{Memory};
 ghost use Rattle.zone_text.specs.declared.fault.TextFault.{TextFault as Told};
@@ -16,35 +16,40 @@ use crate::progress::{MOST_BYTES, Progress};
 use crate::scan::read_ended;
 use dns_name::Name;
 use dns_wire::Records;
-use enum_base::Bytes;
+use enum_base::{Bytes, MemoryFault};
+use http_server::Log;
 use std::alloc::Global;
 use std::marker::Model;
 use zone_token::{Spot, TextWhy};
 
-/// Reads a zone text that comes in pieces. After a fault it answers the same fault.
+/// Reads a zone text that comes in pieces. It keeps the entry that has not ended, and the records. After a fault it answers
+/// the same fault.
 #[derive(Drop)]
 pub struct ZoneReader {
     alloc: Global,
     origin: Name,
-    text: Bytes,
-    progress: Progress,
-    // Where the text so far ends in the entry that has not ended.
+    // The text so far, for proofs alone, which takes no memory: of each piece what was held with it, and where it begins there.
+    fed: Log<Bytes, usize>,
+    // The entry that has not ended.
+    left: Bytes,
+    // Where it leads to.
     spot: Spot,
+    progress: Progress,
     fault: Option<TextFault>,
 }
 
 // Clauses see the origin, the text so far, and the fault that was told.
 impl Model for ZoneReader {
     ghost use Rattle.std.specs.Prelude.{◌≡◌, None};
-    ghost use Rattle.zone_text.specs.Fed.{Fed};
+    ghost use Rattle.zone_text.specs.Fed.{Fed, fed_text};
 
     ghost Value = { Fed };
 
     ghost use Rattle.zone_text.specs.Read.{IsReading};
 
-    ghost view = { λ r. record { origin = r.origin; text = r.text; fault = r.fault } };
+    ghost view = { λ r. record { origin = r.origin; text = fed_text r.fed.items; fault = r.fault } };
 
-    ghost invariant = { λ r. r.fault ≡ None → IsReading r.origin r.text r.progress r.spot };
+    ghost invariant = { λ r. r.fault ≡ None → IsReading r.origin (fed_text r.fed.items) r.progress r.left r.spot };
 }
 
 impl ZoneReader {
@@ -55,9 +60,10 @@ impl ZoneReader {
         ZoneReader {
             alloc,
             origin,
-            text: Bytes::new(alloc),
-            progress: Progress::new(alloc, origin),
+            fed: Log::new(),
+            left: Bytes::new(alloc),
             spot: Spot::beginning(),
+            progress: Progress::new(alloc, origin),
             fault: None,
         }
     }
@@ -77,12 +83,19 @@ impl ZoneReader {
             return Err(fault);
         }
         let piece = &piece[..piece.len().min(MOST_BYTES + 1)];
+        let at = self.left.as_slice().len();
+        if self.left.push_slice(piece).is_err() {
+            let fault = self.progress.fault(TextWhy::Memory);
+            self.fault = Some(fault);
+            return Err(fault);
+        }
+        self.fed = self.fed.and(&self.left, &at);
         match advance(
             self.alloc,
-            &mut self.text,
-            &mut self.progress,
+            &mut self.left,
+            at,
             self.spot,
-            piece,
+            &mut self.progress,
         ) {
             Ok(spot) => {
                 self.spot = spot;
@@ -107,58 +120,63 @@ impl ZoneReader {
         }
         let ZoneReader {
             alloc,
-            text,
+            left,
             mut progress,
             ..
         } = self;
-        finish(alloc, text.as_slice(), &mut progress)?;
+        finish(alloc, left.as_slice(), &mut progress)?;
         Ok(progress.records)
     }
 }
 
-// Appends a piece to a text whose entries were read up to a spot, and reads those that end in it.
+// Reads the entries that end in a piece, which stands behind the entry that has not ended, and drops them.
 fn advance(
     alloc: Global,
-    text: &mut Bytes,
-    progress: &mut Progress,
+    left: &mut Bytes,
+    at: usize,
     spot: Spot,
-    piece: &[u8],
+    progress: &mut Progress,
 ) -> Result<Spot, TextFault>
-    requires { progress.old.size ≤ length text.old }
-    ensures text { OnOk result (text.new ≡ text.old ++ piece.now) }
-    ensures reading { IfOk result (λ last. (origin : Labels) → IsReading origin text.old progress.old spot
-        → IsReading origin text.new progress.new last) }
-    ensures broken { IfErr result (λ fault. fault.why ≢ Memory → (origin : Labels) (more : List ℕ)
-        → IsReading origin text.old progress.old spot → BreaksSoFar (text.old ++ (piece.now ++ more)) origin fault.line fault.why) }
+    requires { at ≤ length left.old }
+    ensures reading { IfOk result (λ last. (origin : Labels) (text : List ℕ) → IsReading origin text progress.old (take at left.old) spot
+        → IsReading origin (text ++ drop at left.old) progress.new left.new last) }
+    ensures broken { IfErr result (λ fault. fault.why ≢ Memory → (origin : Labels) (text more : List ℕ)
+        → IsReading origin text progress.old (take at left.old) spot
+        → BreaksSoFar (text ++ (drop at left.old ++ more)) origin fault.line fault.why) }
 {
-    let at = text.as_slice().len();
-    if text.push_slice(piece).is_err() {
-        return Err(TextFault {
-            line: progress.line,
-            why: TextWhy::Memory,
-        });
+    let begun = read_ended(alloc, left.as_slice(), at, spot, progress)?;
+    if left.as_slice().len() - begun.from > MOST_BYTES - progress.size {
+        return Err(progress.fault(TextWhy::TooLarge));
     }
-    let spot = read_ended(alloc, text.as_slice(), at, spot, progress)?;
-    if text.as_slice().len() > MOST_BYTES {
-        return Err(TextFault {
-            line: progress.line,
-            why: TextWhy::TooLarge,
-        });
+    if drop_front(alloc, left, begun.from).is_err() {
+        return Err(progress.fault(TextWhy::Memory));
     }
-    Ok(spot)
+    Ok(begun.spot)
+}
+
+// Drops the first bytes. What is left goes into memory of its own size.
+fn drop_front(alloc: Global, bytes: &mut Bytes, count: usize) -> Result<(), MemoryFault>
+    requires { count ≤ length bytes.old }
+    ensures { OnOk result (bytes.new ≡ drop count bytes.old) }
+{
+    if count == 0 {
+        return Ok(());
+    }
+    let mut rest = Bytes::new(alloc);
+    rest.push_slice(&bytes.as_slice()[count..])?;
+    *bytes = rest;
+    Ok(())
 }
 
 // Reads the last entry of a text, which no line feed ends.
-fn finish(alloc: Global, text: &[u8], progress: &mut Progress) -> Result<(), TextFault>
-    requires { progress.old.size ≤ length text.now }
-    ensures ok { OnOk result ((origin : Labels) (spot : Here) → IsReading origin text.now progress.old spot
-        → run (unread origin) (entries_of text.now) ≡ Ok (seen progress.new)) }
-    ensures err { IfErr result (λ fault. fault.why ≢ Memory → (origin : Labels) (spot : Here)
-        → IsReading origin text.now progress.old spot → run (unread origin) (entries_of text.now) ≡ Err fault) }
+fn finish(alloc: Global, left: &[u8], progress: &mut Progress) -> Result<(), TextFault>
+    ensures ok { OnOk result ((origin : Labels) (text : List ℕ) (spot : Here) → IsReading origin text progress.old left.now spot
+        → run (unread origin) (entries_of text) ≡ Ok (seen progress.new)) }
+    ensures err { IfErr result (λ fault. fault.why ≢ Memory → (origin : Labels) (text : List ℕ) (spot : Here)
+        → IsReading origin text progress.old left.now spot → run (unread origin) (entries_of text) ≡ Err fault) }
 {
-    let rest = &text[progress.size..];
-    if rest.is_empty() {
+    if left.is_empty() {
         return Ok(());
     }
-    progress.read(alloc, rest)
+    progress.read(alloc, left)
 }

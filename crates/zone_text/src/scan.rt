@@ -10,36 +10,45 @@ use crate::progress::Progress;
 use std::alloc::Global;
 use zone_token::Spot;
 
-/// Reads the entries that end from a place on, where an entry is begun and leads to a spot; the spot at the end.
+/// An entry that has not ended.
+#[derive(Clone, Copy, Debug)]
+pub(crate) struct Begun {
+    /// Where it begins.
+    pub(crate) from: usize,
+    /// The spot to which it leads.
+    pub(crate) spot: Spot,
+}
+
+/// Reads the entries that end in a text. Its bytes before a place were looked at before: they end none, and lead to a spot.
 pub(crate) fn read_ended(
     alloc: Global,
     text: &[u8],
     at: usize,
     spot: Spot,
     progress: &mut Progress,
-) -> Result<Spot, TextFault>
-    requires { (progress.old.size ≤ at) × (at ≤ length text.now) }
-    ensures ok { let begun = take (at - progress.old.size) (drop progress.old.size text.now) in
-        IfOk result (λ _. run (seen progress.old) (ended_from begun spot (drop at text.now)) ≡ Ok (seen progress.new)) }
-    ensures rest { let begun = take (at - progress.old.size) (drop progress.old.size text.now) in
-        IfOk result (λ last. rest_from begun spot (drop at text.now) ≡ (drop progress.new.size text.now, last)) }
-    ensures within { IfOk result (λ _. progress.new.size ≤ length text.now) }
-    ensures err { let begun = take (at - progress.old.size) (drop progress.old.size text.now) in
-        IfErr result (λ fault. fault.why ≢ Memory → run (seen progress.old) (ended_from begun spot (drop at text.now)) ≡ Err fault) }
+) -> Result<Begun, TextFault>
+    requires { at ≤ length text.now }
+    ensures ok { IfOk result (λ _. run (seen progress.old) (ended_from (take at text.now) spot (drop at text.now)) ≡ Ok (seen progress.new)) }
+    ensures rest { IfOk result (λ begun. rest_from (take at text.now) spot (drop at text.now) ≡ (drop begun.from text.now, begun.spot)) }
+    ensures within { IfOk result (λ begun. begun.from ≤ length text.now) }
+    ensures err { IfErr result (λ fault. fault.why ≢ Memory
+        → run (seen progress.old) (ended_from (take at text.now) spot (drop at text.now)) ≡ Err fault) }
 {
     let mut spot = spot;
+    let mut from = 0;
     let mut here = next_turn(text, at, spot);
     while here < text.len() {
         let byte = text[here];
         if spot.is_end(byte) {
-            progress.read(alloc, entry_of(text, progress.size, here))?;
+            progress.read(alloc, entry_of(text, from, here))?;
             spot = Spot::beginning();
+            from = here + 1;
         } else {
-            spot = spot.behind(byte);
+            spot = spot.after(byte);
         }
         here = next_turn(text, here + 1, spot);
     }
-    Ok(spot)
+    Ok(Begun { from, spot })
 }
 
 // The place of the first byte from there on that may change the spot.

@@ -10,13 +10,12 @@ groups-last zero quad text some is = absurd (omega arith)
 groups-last (suc more) quad text some is = rw is refl
 
 -- a group before others
-pub groups-step : (more : ℕ) (quad : Bool) (text part behind : List ℕ) → 0 < more
-    → cut colon text ≡ Some (part, behind)
-    → groups_of more quad text ≡ (group_of part >>= λ group. bytes_before group (groups_of (more - 1) quad behind))
+pub groups-step : (more : ℕ) (quad : Bool) (text part after : List ℕ) → 0 < more → cut colon text ≡ Some (part, after)
+    → groups_of more quad text ≡ (group_of part >>= λ group. bytes_before group (groups_of (more - 1) quad after))
 unfolding groups_of
-groups-step zero quad text part behind some is = absurd (omega arith)
-groups-step (suc more) quad text part behind some is =
-    rw is (ap (λ n. group_of part >>= λ group. bytes_before group (groups_of n quad behind)) (let e : more ≡ suc more - 1 = omega arith in e))
+groups-step zero quad text part after some is = absurd (omega arith)
+groups-step (suc more) quad text part after some is =
+    rw is (ap (λ n. group_of part >>= λ group. bytes_before group (groups_of n quad after)) (let e : more ≡ suc more - 1 = omega arith in e))
 
 none-left : (quad : Bool) (text : List ℕ) → groups_of 0 quad text ≡ None
 unfolding groups_of

@@ -7,7 +7,7 @@ use Rattle.std.proofs.lemmas.List.{append-nil, take-append-drop}
 use Rattle.std.proofs.lemmas.Bool.{cond-true, cond-false, and_parts, eqb-true}
 use Rattle.std.proofs.lemmas.Bool.Decides.{nat_tests}
 use Rattle.zone_token.specs.Bytes.{line_feed, quote, opening, closing, semicolon, backslash, is_blank}
-use Rattle.zone_token.specs.Entries.{behind, part_behind, inside_behind, ends_entry, is_quoted, last_entry, entries_from}
+use Rattle.zone_token.specs.Entries.{after, part_after, inside_after, ends_entry, is_quoted, last_entry, entries_from}
 use Rattle.zone_token.specs.Tokens.{◌>>=◌, ends_bare, is_bare, bare_from, is_in_quotes, quoted_from, comment_size, nothing, one, front_of}
 use Rattle.zone_token.specs.Laws.{plain, EntriesGoOn}
 use Rattle.zone_token.specs.declared.spot.Part.TheVariants.{Plain, Escaped, Quoted, QuotedEscaped, Comment}
@@ -19,18 +19,18 @@ use Rattle.zone_token.specs.declared.fault.TextWhy.TheVariants.{BadToken, OpenQu
 -- bytes lead from a spot to another, and end no entry on the way
 abbrev Passes : Spot → List ℕ → Spot → Type 0
 Passes spot [] last = spot ≡ last
-Passes spot (byte ∷ rest) last = (ends_entry spot byte ≡ false) × Passes (behind spot byte) rest last
+Passes spot (byte ∷ rest) last = (ends_entry spot byte ≡ false) × Passes (after spot byte) rest last
 
 passes-entries : (begun : List ℕ) (spot last : Spot) (some rest : List ℕ) → Passes spot some last
     → entries_from begun spot (some ++ rest) ≡ entries_from (begun ++ some) last rest
 passes-entries begun spot last [] rest p = ap (λ s. entries_from begun s rest) p ∙ ap (λ b. entries_from b last rest) (sym (append-nil begun))
 passes-entries begun spot last (byte ∷ some) rest p =
     cond-false (ends_entry spot byte) _ _ p.0
-    ∙ passes-entries (begun ++ byte ∷ []) (behind spot byte) last some rest p.1 ∙ ap (λ b. entries_from b last rest) (append_assoc begun (byte ∷ []) some)
+    ∙ passes-entries (begun ++ byte ∷ []) (after spot byte) last some rest p.1 ∙ ap (λ b. entries_from b last rest) (append_assoc begun (byte ∷ []) some)
 
 -- one byte of plain text
 one-more : (begun : List ℕ) (inside : Bool) (next : Spot) (byte : ℕ) (rest : List ℕ)
-    → ends_entry (plain inside) byte ≡ false → behind (plain inside) byte ≡ next
+    → ends_entry (plain inside) byte ≡ false → after (plain inside) byte ≡ next
     → entries_from begun (plain inside) (byte ∷ rest) ≡ entries_from (begun ++ byte ∷ []) next rest
 one-more begun inside next byte rest goes is =
     cond-false (ends_entry (plain inside) byte) _ _ goes ∙ ap (λ s. entries_from (begun ++ byte ∷ []) s rest) is
@@ -44,7 +44,7 @@ six false false false true e f is = cc
 six false false false false true f is = cc
 six false false false false false true is = cc
 
--- the spot in a bare token, behind a backslash or not
+-- the spot in a bare token, after a backslash or not
 abbrev bare_spot : Bool → Bool → Spot
 bare_spot true inside = record { part = Escaped; inside = inside }
 bare_spot false inside = plain inside
@@ -60,7 +60,7 @@ visible-feed byte rest is = grind (arith, nat_tests)
 bare-step : (escaped inside : Bool) (byte : ℕ) (rest : List ℕ) → (not escaped && ends_bare (byte ∷ rest)) ≡ false
     → is_bare escaped (byte ∷ rest) ≡ true
     → (ends_entry (bare_spot escaped inside) byte ≡ false)
-    × (behind (bare_spot escaped inside) byte ≡ bare_spot (not escaped && byte == backslash) inside)
+    × (after (bare_spot escaped inside) byte ≡ bare_spot (not escaped && byte == backslash) inside)
 bare-step true inside byte rest goes is = (ap (λ t. t && (is_quoted Escaped || not inside)) (visible-feed byte rest is), refl)
 bare-step false inside byte rest goes is =
     let s = six (is_blank (byte ∷ rest)) (byte == line_feed) (byte == semicolon) (byte == opening) (byte == closing) (byte == quote) goes in
@@ -103,11 +103,11 @@ bare-passes escaped inside size n (byte ∷ rest) is =
         let later = again same in
         let step = bare-step escaped inside byte rest ends is in
         let longer : suc (n - (size + 1)) ≡ n - size = omega (arith, later.0) in
-        let first : Passes (behind (bare_spot escaped inside) byte) (take (n - (size + 1)) rest) (plain inside) =
+        let first : Passes (after (bare_spot escaped inside) byte) (take (n - (size + 1)) rest) (plain inside) =
         subst (λ s. Passes s (take (n - (size + 1)) rest) (plain inside)) (sym step.1) later.1 in
         (omega (arith, later.0), subst (λ k. Passes (bare_spot escaped inside) (take {A = ℕ} k (byte ∷ rest)) (plain inside)) longer (step.0, first))
 
--- the spot in a quoted token, behind a backslash or not
+-- the spot in a quoted token, after a backslash or not
 abbrev quoted_spot : Bool → Bool → Spot
 quoted_spot true inside = record { part = QuotedEscaped; inside = inside }
 quoted_spot false inside = record { part = Quoted; inside = inside }
@@ -119,7 +119,7 @@ quoted-of false inside = refl
 -- a byte of a quoted token
 quoted-step : (escaped inside : Bool) (byte : ℕ) → (byte == line_feed) ≡ false → (not escaped && byte == quote) ≡ false
     → (ends_entry (quoted_spot escaped inside) byte ≡ false)
-    × (behind (quoted_spot escaped inside) byte ≡ quoted_spot (not escaped && byte == backslash) inside)
+    × (after (quoted_spot escaped inside) byte ≡ quoted_spot (not escaped && byte == backslash) inside)
 quoted-step true inside byte feed closes = (ap (λ t. t && (is_quoted QuotedEscaped || not inside)) feed, refl)
 quoted-step false inside byte feed closes = (ap (λ t. t && (is_quoted Quoted || not inside)) feed, rw closes (quoted-of (byte == backslash) inside))
 
@@ -159,7 +159,7 @@ quoted-passes escaped inside size n (byte ∷ rest) is =
         let later = again same in
         let step = quoted-step escaped inside byte feed close in
         let longer : suc (n - (size + 1) + 1) ≡ n - size + 1 = omega (arith, later.0) in
-        let first : Passes (behind (quoted_spot escaped inside) byte) (take (n - (size + 1) + 1) rest) (plain inside) =
+        let first : Passes (after (quoted_spot escaped inside) byte) (take (n - (size + 1) + 1) rest) (plain inside) =
         subst (λ s. Passes s (take (n - (size + 1) + 1) rest) (plain inside)) (sym step.1) later.1 in
         (omega (arith, later.0), subst (λ k. Passes (quoted_spot escaped inside) (take {A = ℕ} k (byte ∷ rest)) (plain inside)) longer (step.0, first))
 
@@ -199,7 +199,7 @@ comment-over begun inside (byte ∷ rest) = at (comment-over (begun ++ byte ∷ 
         let more : position_or_len feeds (byte ∷ rest) ≡ 1 + n = ap (λ t. cond (not t) (1 + n) 0) is in
         let next : 1 + n ≡ suc n = omega arith in
         let goes : ends_entry (comment_spot inside) byte ≡ false = ap (λ t. t && (is_quoted Comment || not inside)) is in
-        let stays : behind (comment_spot inside) byte ≡ comment_spot inside = rw is refl in
+        let stays : after (comment_spot inside) byte ≡ comment_spot inside = rw is refl in
         subst Over (sym (more ∙ next))
         (cond-false (ends_entry (comment_spot inside) byte) _ _ goes ∙ ap (λ s. entries_from (begun ++ byte ∷ []) s rest) stays
         ∙ later ∙ ap (λ b. entries_from b (plain inside) (drop n rest)) (append_assoc begun (byte ∷ []) (take n rest)))

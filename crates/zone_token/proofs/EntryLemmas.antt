@@ -5,7 +5,7 @@ use Rattle.std.specs.List.{flat_map}
 use Rattle.std.proofs.lemmas.List.{append-nil}
 use Rattle.std.proofs.lemmas.Bool.{cond_both, and_parts, eqb-true}
 use Rattle.zone_token.specs.Bytes.{line_feed}
-use Rattle.zone_token.specs.Entries.{beginning, behind, ends_entry, is_quoted, last_entry, entries_from, entries_of}
+use Rattle.zone_token.specs.Entries.{beginning, after, ends_entry, is_quoted, last_entry, entries_from, entries_of}
 use Rattle.zone_token.specs.declared.spot.Spot.{Spot}
 
 -- the bytes of entries
@@ -20,7 +20,7 @@ cut_is begun spot (byte ∷ rest) =
     let P : List (List ℕ) → Type 0 = λ es. bytes_of es ≡ begun ++ byte ∷ rest in
     cond_both (ends_entry spot byte) _ _ P
     (λ _. ap (λ bytes. (begun ++ byte ∷ []) ++ bytes) (cut_is [] beginning rest) ∙ append_assoc begun (byte ∷ []) rest)
-    (λ _. cut_is (begun ++ byte ∷ []) (behind spot byte) rest ∙ append_assoc begun (byte ∷ []) rest)
+    (λ _. cut_is (begun ++ byte ∷ []) (after spot byte) rest ∙ append_assoc begun (byte ∷ []) rest)
 
 pub are_the_text : (text : List ℕ) → bytes_of (entries_of text) ≡ text
 are_the_text text = cut_is [] beginning text
@@ -45,7 +45,7 @@ lined (b ∷ begun) spot [] = (omega arith, inl refl, tt)
 lined begun spot (byte ∷ rest) =
     cond_both (ends_entry spot byte) _ _ Lined
     (λ ends. (omega (arith, length-append begun (byte ∷ [])), inr (ends_line begun spot byte ends), lined [] beginning rest))
-    (λ _. lined (begun ++ byte ∷ []) (behind spot byte) rest)
+    (λ _. lined (begun ++ byte ∷ []) (after spot byte) rest)
 
 lined-at : (front back : List (List ℕ)) (entry : List ℕ) → Lined (front ++ entry ∷ back) → (0 < length entry) × ((length back ≡ 0) ⊎ EndsLine entry)
 lined-at [] back entry all = (all.0, all.1)

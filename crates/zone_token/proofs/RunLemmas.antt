@@ -47,7 +47,7 @@ bare-run (suc n) size (byte ∷ rest) inside each =
     ∙ bare-run n (size + 1) rest (omega arith) (λ k below. each (suc k) (omega arith))
     ∙ sym (bare-plain size byte rest (each 0 (omega arith)))
 
--- the loop over a bare token begins behind its plain bytes
+-- the loop over a bare token begins after its plain bytes
 pub bare-begins : (size : ℕ) (text : List ℕ) → size ≡ size_until (λ byte. not (is_plain byte)) text
     → size ≤ length text → bare_from false size (take (length text - size) (drop size text)) ≡ bare_from false 0 text
 bare-begins size text is inside =
@@ -81,7 +81,7 @@ quoted-run (suc n) size (byte ∷ rest) inside each =
     ∙ quoted-run n (size + 1) rest (omega arith) (λ k below. each (suc k) (omega arith))
     ∙ sym (quoted-plain size byte rest (each 0 (omega arith)))
 
--- the loop over a quoted token begins behind its plain bytes
+-- the loop over a quoted token begins after its plain bytes
 pub quoted-begins : (size : ℕ) (text : List ℕ) → size ≡ size_until (λ byte. not (is_plain_quoted byte)) text
     → size ≤ length text → quoted_from false size (take (length text - size) (drop size text))
     ≡ quoted_from false 0 text
@@ -90,6 +90,6 @@ quoted-begins size text is inside =
     ap (quoted_from false size) (take_rest text size) ∙ ap (λ n. quoted_from false n (drop size text)) start
     ∙ quoted-run size 0 text inside (until-passes is_plain_quoted text size is)
 
--- what is left behind some bytes
+-- what is left after some bytes
 pub left-size : (size : ℕ) (text : List ℕ) → size ≤ length text → size + length (take (length text - size) (drop size text)) ≡ length text
 left-size size text inside = omega (arith, ap length (take_rest text size), length-drop size text)

@@ -3,7 +3,7 @@ use Rattle.std.specs.Prelude.{◌==◌, ◌||◌, ◌&&◌, not, if◌then◌els
 use Rattle.std.specs.List.{position_or_len}
 use Rattle.std.proofs.lemmas.List.Sums.{fails_before_first}
 use Rattle.zone_token.specs.Bytes.{line_feed, quote, opening, closing, semicolon, backslash, size_until}
-use Rattle.zone_token.specs.Entries.{behind, ends_entry, part_behind, inside_behind, is_escaped, is_quoted, still_size, turns}
+use Rattle.zone_token.specs.Entries.{after, ends_entry, part_after, inside_after, is_escaped, is_quoted, still_size, turns}
 use Rattle.zone_token.specs.declared.spot.Part.{Part}
 use Rattle.zone_token.specs.declared.spot.Part.TheVariants.{Plain, Escaped, Quoted, QuotedEscaped, Comment}
 use Rattle.zone_token.specs.declared.spot.Spot.{Spot}
@@ -11,7 +11,7 @@ use Rattle.zone_token.proofs.RunLemmas.{until-le}
 
 -- a byte leaves a spot as it is, and ends no entry
 pub record Stays (spot : Spot) (byte : ℕ) : Type 0 where
-  pub same : behind spot byte ≡ spot
+  pub same : after spot byte ≡ spot
   pub goes : ends_entry spot byte ≡ false
 
 none_of : (feed quote semicolon opening closing backslash : Bool)
@@ -35,7 +35,7 @@ stays-still part inside byte plain is =
     same_at : (part : Part) → is_escaped part ≡ false → (byte == line_feed) ≡ false → (byte == quote) ≡ false
         → (byte == semicolon) ≡ false → (byte == opening) ≡ false → (byte == closing) ≡ false
         → (byte == backslash) ≡ false
-        → ◌≡◌ {A = Spot} (record { part = part_behind part byte; inside = inside_behind part inside byte })
+        → ◌≡◌ {A = Spot} (record { part = part_after part byte; inside = inside_after part inside byte })
         (record { part = part; inside = inside })
     same_at Plain plain f q s o c b = rw (q, s, b, o, c) refl
     same_at Escaped plain f q s o c b = cc

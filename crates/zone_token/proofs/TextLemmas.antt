@@ -60,8 +60,8 @@ pub loop_goes_on : (bytes now : List ℕ) (left rest text : List ℕ) (byte more
     → bytes_before bytes (undone_from 0 left) ≡ undone_from 0 text → 0 < length left
     → first_byte left ≡ Some (byte, more) → now ≡ bytes ++ byte ∷ [] → rest ≡ drop (more + 1) left
     → bytes_before now (undone_from 0 rest) ≡ undone_from 0 text
-loop_goes_on bytes now left rest text byte more same some is pushed behind =
-    rw (pushed, behind) (sym (before-before bytes (byte ∷ []) (undone_from 0 (drop (more + 1) left)))
+loop_goes_on bytes now left rest text byte more same some is pushed after =
+    rw (pushed, after) (sym (before-before bytes (byte ∷ []) (undone_from 0 (drop (more + 1) left)))
     ∙ ap (bytes_before bytes) (sym (undone-step left byte more some is)) ∙ same)
 
 pub loop_breaks : (bytes left text : List ℕ) → bytes_before bytes (undone_from 0 left) ≡ undone_from 0 text

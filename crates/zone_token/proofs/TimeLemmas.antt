@@ -6,7 +6,7 @@ use Rattle.std.proofs.lemmas.Bool.{cond_both}
 use Rattle.std.proofs.lemmas.Bool.Decides.{nat_tests}
 use Rattle.enum_base.specs.Folding.{folded_byte}
 use Rattle.zone_token.specs.Texts.{◌>>=◌}
-use Rattle.zone_token.specs.Times.{most_seconds, with_digit, seconds_of_small, seconds_of_unit, seconds_behind, united_from, if_time}
+use Rattle.zone_token.specs.Times.{most_seconds, with_digit, seconds_of_small, seconds_of_unit, seconds_after, united_from, if_time}
 
 -- a unit has at least one second
 unit_some : (unit : ℕ) → IfSome (seconds_of_small unit) (λ seconds. 1 ≤ seconds)
@@ -33,7 +33,7 @@ ended seconds n each = Some (seconds + n * each, None)
 
 -- what follows seconds and a number
 abbrev going : Option (ℕ × Option ℕ) → List ℕ → Option ℕ
-going behind rest = behind >>= λ b. united_from b.0 b.1 rest
+going after rest = after >>= λ b. united_from b.0 b.1 rest
 
 grows_by : (seconds n : ℕ) (unit : Option ℕ) (rest : List ℕ) → IfSome unit (λ each. 1 ≤ each)
     → ((now : ℕ) → IfSome (united_from now None rest) (λ whole. now + 0 ≤ whole))
@@ -55,7 +55,7 @@ grows : (seconds : ℕ) (number : Option ℕ) (text : List ℕ) → IfSome (unit
 grows seconds None [] = omega arith
 grows seconds (Some n) [] = tt
 grows seconds number (byte ∷ rest) =
-    let P : Option (ℕ × Option ℕ) → Type 0 = λ o. IfSome (o >>= λ behind. united_from behind.0 behind.1 rest) (λ whole. seconds + unwrap_or number 0 ≤ whole) in
+    let P : Option (ℕ × Option ℕ) → Type 0 = λ o. IfSome (o >>= λ after. united_from after.0 after.1 rest) (λ whole. seconds + unwrap_or number 0 ≤ whole) in
     let longer : seconds + unwrap_or number 0 ≤ seconds + with_digit (unwrap_or number 0) byte = omega arith in
     cond_both (is_ascii_digit byte) _ _ P
     (λ _. weaker (united_from seconds (Some (with_digit (unwrap_or number 0) byte)) rest)
@@ -69,16 +69,16 @@ not_time None low great h = refl
 not_time (Some whole) low great h =
     let over : most_seconds < whole = omega arith in grind (arith, nat_tests, over)
 
-stops : (behind : Option (ℕ × Option ℕ)) (rest : List ℕ) → ForSome behind (λ b. most_seconds < b.0 + unwrap_or b.1 0)
-    → option_and_then if_time (behind >>= λ b. united_from b.0 b.1 rest) ≡ None
+stops : (after : Option (ℕ × Option ℕ)) (rest : List ℕ) → ForSome after (λ b. most_seconds < b.0 + unwrap_or b.1 0)
+    → option_and_then if_time (after >>= λ b. united_from b.0 b.1 rest) ≡ None
 stops None rest great = refl
 stops (Some b) rest great = not_time (united_from b.0 b.1 rest) (b.0 + unwrap_or b.1 0) (great b refl) (grows b.0 b.1 rest)
 
 -- the loop stops where the seconds or the number are too great
 pub loop_stops : (seconds : ℕ) (number : Option ℕ) (left text : List ℕ)
     → united_from seconds number left ≡ united_from 0 None text → 0 < length left
-    → ForSome (seconds_behind seconds number (get_or left 0 0)) (λ b. most_seconds < b.0 + unwrap_or b.1 0)
+    → ForSome (seconds_after seconds number (get_or left 0 0)) (λ b. most_seconds < b.0 + unwrap_or b.1 0)
     → option_and_then if_time (united_from 0 None text) ≡ None
 loop_stops seconds number [] text same some great = absurd (omega arith)
 loop_stops seconds number (byte ∷ rest) text same some great =
-    ap (option_and_then if_time) (sym same) ∙ stops (seconds_behind seconds number byte) rest great
+    ap (option_and_then if_time) (sym same) ∙ stops (seconds_after seconds number byte) rest great

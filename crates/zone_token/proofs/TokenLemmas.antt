@@ -12,7 +12,7 @@ use Rattle.zone_token.specs.declared.fault.TextWhy.TheVariants.{OpenParen}
 abbrev pub after_tokens : List Token → Result (List Token) TextWhy → Result (List Token) TextWhy
 after_tokens front rest = rest >>= λ tokens. Ok (front ++ tokens)
 
--- the tokens behind some skipped bytes are those of what is left
+-- the tokens after some skipped bytes are those of what is left
 tokens_from-drop : (skipped : ℕ) (inside : Bool) (text : List ℕ) → tokens_from skipped inside text ≡ tokens_from 0 inside (drop skipped text)
 unfolding tokens_from
 tokens_from-drop zero inside text = refl
@@ -28,7 +28,7 @@ pub none-before : (rest : Result (List Token) TextWhy) → after_tokens [] rest 
 none-before (Ok tokens) = refl
 none-before (Err why) = refl
 
--- the tokens of a text are those at its front and those behind it
+-- the tokens of a text are those at its front and those after it
 pub tokens-step : (inside : Bool) (text : List ℕ) (front : Front) → 0 < length text → front_of inside text ≡ Ok front
     → tokens_from 0 inside text
     ≡ after_tokens (option_to_list front.token) (tokens_from 0 front.inside (drop (front.more + 1) text))

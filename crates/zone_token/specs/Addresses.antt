@@ -14,7 +14,7 @@ dot = 46
 abbrev pub colon : ℕ
 colon = 58
 
--- what stands before the first such byte, and what stands behind it
+-- what stands before the first such byte, and what stands after it
 unfoldable pub cut : ℕ → List ℕ → Option (List ℕ × List ℕ)
 cut byte text = option_map (λ at. (take at text, drop (at + 1) text)) (position (λ b. b == byte) text)
 
@@ -90,7 +90,7 @@ abbrev pub double_from : ℕ → List ℕ → Option ℕ
 double_from at [] = None
 double_from at (byte ∷ rest) = if byte == colon && is_colon rest then Some at else double_from (at + 1) rest
 
--- what stands before the first two colons in a row, and what stands behind them
+-- what stands before the first two colons in a row, and what stands after them
 unfoldable pub cut_double : List ℕ → Option (List ℕ × List ℕ)
 cut_double text = option_map (λ at. (take at text, drop (at + 2) text)) (double_from 0 text)
 

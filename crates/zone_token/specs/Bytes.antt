@@ -68,7 +68,7 @@ abbrev pub escaped_byte : List ℕ → Option (ℕ × ℕ)
 escaped_byte [] = None
 escaped_byte (byte ∷ rest) = if is_ascii_digit byte then decimal_byte byte rest else Some (byte, 1)
 
--- what stands behind a backslash begins a well-formed escape
+-- what stands after a backslash begins a well-formed escape
 abbrev pub is_escape : List ℕ → Bool
 is_escape text = is_some (escaped_byte text)
 

@@ -6,25 +6,25 @@ use Rattle.zone_token.specs.declared.spot.Part.{Part}
 use Rattle.zone_token.specs.declared.spot.Part.TheVariants.{Plain, Escaped, Quoted, QuotedEscaped, Comment}
 use Rattle.zone_token.specs.declared.spot.Spot.{Spot}
 
--- the part of an entry that stands behind a byte: plain text, what a backslash escapes, a quoted text, or a comment
-abbrev pub part_behind : Part → ℕ → Part
-part_behind Plain byte =
+-- the part of an entry that stands after a byte: plain text, what a backslash escapes, a quoted text, or a comment
+abbrev pub part_after : Part → ℕ → Part
+part_after Plain byte =
     if byte == quote then Quoted
     else if byte == semicolon then Comment
     else if byte == backslash then Escaped
     else Plain
-part_behind Escaped byte = Plain
-part_behind Quoted byte = if byte == quote then Plain else if byte == backslash then QuotedEscaped else Quoted
-part_behind QuotedEscaped byte = Quoted
-part_behind Comment byte = if byte == line_feed then Plain else Comment
+part_after Escaped byte = Plain
+part_after Quoted byte = if byte == quote then Plain else if byte == backslash then QuotedEscaped else Quoted
+part_after QuotedEscaped byte = Quoted
+part_after Comment byte = if byte == line_feed then Plain else Comment
 
--- whether parentheses are open behind a byte
-abbrev pub inside_behind : Part → Bool → ℕ → Bool
-inside_behind Plain inside byte = if byte == opening then true else if byte == closing then false else inside
-inside_behind Escaped inside byte = inside
-inside_behind Quoted inside byte = inside
-inside_behind QuotedEscaped inside byte = inside
-inside_behind Comment inside byte = inside
+-- whether parentheses are open after a byte
+abbrev pub inside_after : Part → Bool → ℕ → Bool
+inside_after Plain inside byte = if byte == opening then true else if byte == closing then false else inside
+inside_after Escaped inside byte = inside
+inside_after Quoted inside byte = inside
+inside_after QuotedEscaped inside byte = inside
+inside_after Comment inside byte = inside
 
 -- a line feed in this part ends the entry, whether parentheses are open or not
 abbrev pub is_quoted : Part → Bool
@@ -34,7 +34,7 @@ is_quoted Quoted = true
 is_quoted QuotedEscaped = true
 is_quoted Comment = false
 
--- the part behind a byte that has no meaning of its own
+-- the part after a byte that has no meaning of its own
 abbrev pub unescaped : Part → Part
 unescaped Plain = Plain
 unescaped Escaped = Plain
@@ -47,7 +47,7 @@ abbrev pub turns : ℕ → Bool
 turns byte =
     byte == line_feed || byte == quote || byte == semicolon || byte == opening || byte == closing || byte == backslash
 
--- behind a backslash
+-- after a backslash
 abbrev pub is_escaped : Part → Bool
 is_escaped Plain = false
 is_escaped Escaped = true
@@ -63,9 +63,9 @@ still_size spot text = if is_escaped spot.part then 0 else size_until turns text
 abbrev pub beginning : Spot
 beginning = record { part = Plain; inside = false }
 
--- the spot behind a byte
-abbrev pub behind : Spot → ℕ → Spot
-behind spot byte = record { part = part_behind spot.part byte; inside = inside_behind spot.part spot.inside byte }
+-- the spot after a byte
+abbrev pub after : Spot → ℕ → Spot
+after spot byte = record { part = part_after spot.part byte; inside = inside_after spot.part spot.inside byte }
 
 -- a byte at a spot ends its entry
 abbrev pub ends_entry : Spot → ℕ → Bool
@@ -81,14 +81,14 @@ abbrev pub entries_from : List ℕ → Spot → List ℕ → List (List ℕ)
 entries_from begun spot [] = last_entry begun
 entries_from begun spot (byte ∷ rest) =
     if ends_entry spot byte then (begun ++ byte ∷ []) ∷ entries_from [] beginning rest
-    else entries_from (begun ++ byte ∷ []) (behind spot byte) rest
+    else entries_from (begun ++ byte ∷ []) (after spot byte) rest
 
 -- the entries of a text that end in it: all but a last one that no line feed ends
 abbrev pub ended_from : List ℕ → Spot → List ℕ → List (List ℕ)
 ended_from begun spot [] = []
 ended_from begun spot (byte ∷ rest) =
     if ends_entry spot byte then (begun ++ byte ∷ []) ∷ ended_from [] beginning rest
-    else ended_from (begun ++ byte ∷ []) (behind spot byte) rest
+    else ended_from (begun ++ byte ∷ []) (after spot byte) rest
 
 -- the entries of a text in turn
 abbrev pub entries_of : List ℕ → List (List ℕ)

@@ -44,6 +44,6 @@ bare_in (Some token) = if token.quoted then None else Some token.text
 unfoldable pub bare_at : List Token → ℕ → Option (List ℕ)
 bare_at tokens place = bare_in (slice_get tokens place)
 
--- no token stands at a place or behind it
+-- no token stands at a place or after it
 unfoldable pub ends_at : List Token → ℕ → Result (Unit {0}) TextWhy
 ends_at tokens place = if nat_le (length tokens) place then Ok tt else Err BadData

@@ -6,7 +6,7 @@ infixl 10 ◌>>=◌
 abbrev pub ◌>>=◌ : {A B : Type 0} → Option A → (A → Option B) → Option B
 o >>= f = option_and_then f o
 
--- the bytes that a text stands for behind some skipped bytes, if its escapes are well-formed
+-- the bytes that a text stands for after some skipped bytes, if its escapes are well-formed
 unfoldable pub undone_from : ℕ → List ℕ → Option (List ℕ)
 undone_from skipped [] = Some []
 undone_from (suc skipped) (byte ∷ rest) = undone_from skipped rest

@@ -1,4 +1,4 @@
--- Times: seconds in digits, or digits with a unit behind them once or more (this project's own).
+-- Times: seconds in digits, or digits with a unit after them once or more (this project's own).
 use Rattle.std.specs.Prelude.{ℕ, ◌+◌, ◌-◌, ◌*◌, List, [], ◌∷◌, nat_le, is_some, unwrap_or, ◌==◌, if◌then◌else◌, Option, Some, None}
 use Rattle.std.specs.List.{list_all}
 use Rattle.std.specs.Result.{result_ok}
@@ -28,9 +28,9 @@ seconds_of_unit unit = seconds_of_small (folded_byte unit)
 abbrev pub with_digit : ℕ → ℕ → ℕ
 with_digit number digit = 10 * number + (digit - 48)
 
--- the seconds and the number behind a byte: a digit makes the number longer, a unit ends it
-abbrev pub seconds_behind : ℕ → Option ℕ → ℕ → Option (ℕ × Option ℕ)
-seconds_behind seconds number byte =
+-- the seconds and the number after a byte: a digit makes the number longer, a unit ends it
+abbrev pub seconds_after : ℕ → Option ℕ → ℕ → Option (ℕ × Option ℕ)
+seconds_after seconds number byte =
     if is_ascii_digit byte then Some (seconds, Some (with_digit (unwrap_or number 0) byte))
     else number >>= λ n. seconds_of_unit byte >>= λ unit. Some (seconds + n * unit, None)
 
@@ -38,8 +38,8 @@ seconds_behind seconds number byte =
 abbrev pub united_from : ℕ → Option ℕ → List ℕ → Option ℕ
 united_from seconds number [] = if is_some number then None else Some seconds
 united_from seconds number (byte ∷ rest) = do
-  behind ← seconds_behind seconds number byte
-  united_from behind.0 behind.1 rest
+  after ← seconds_after seconds number byte
+  united_from after.0 after.1 rest
 
 -- a time that is not too great
 abbrev pub if_time : ℕ → Option ℕ

@@ -25,18 +25,18 @@ ends_bare [] = true
 ends_bare (byte ∷ rest) =
     is_blank (byte ∷ rest) || byte == line_feed || byte == semicolon || byte == opening || byte == closing || byte == quote
 
--- the byte at the front of a text may stand in a bare token, behind a backslash or not
+-- the byte at the front of a text may stand in a bare token, after a backslash or not
 abbrev pub is_bare : Bool → List ℕ → Bool
 is_bare escaped [] = false
 is_bare escaped (byte ∷ rest) =
     (is_visible byte || is_blank (byte ∷ rest)) && (not escaped || is_escape (byte ∷ rest))
 
--- a byte that stands in a bare token whatever stands around it, behind no backslash
+-- a byte that stands in a bare token whatever stands around it, after no backslash
 abbrev pub is_plain : ℕ → Bool
 is_plain byte =
     is_visible byte && not (byte == semicolon || byte == opening || byte == closing || byte == quote || byte == backslash)
 
--- a byte that stands in a quoted token whatever stands around it, behind no backslash
+-- a byte that stands in a quoted token whatever stands around it, after no backslash
 abbrev pub is_plain_quoted : ℕ → Bool
 is_plain_quoted byte = nat_le 32 byte && nat_le byte 126 && not (byte == quote || byte == backslash)
 
@@ -48,7 +48,7 @@ bare_from escaped size (byte ∷ rest) =
     else if is_bare escaped (byte ∷ rest) then bare_from (not escaped && byte == backslash) (size + 1) rest
     else Err BadToken
 
--- the byte at the front of a text may stand in a quoted token, behind a backslash or not
+-- the byte at the front of a text may stand in a quoted token, after a backslash or not
 abbrev pub is_in_quotes : Bool → List ℕ → Bool
 is_in_quotes escaped [] = false
 is_in_quotes escaped (byte ∷ rest) = is_quotable byte && (not escaped || is_escape (byte ∷ rest))
@@ -75,7 +75,7 @@ abbrev pub one : Bool → List ℕ → ℕ → Bool → Front
 one quoted text more inside = record { token = Some (record { quoted = quoted; text = text }); more = more; inside = inside }
 
 -- what stands at the front of a text that is not empty: a token or none, how many bytes it has beyond the first, and
--- whether parentheses are open behind it, where they are open before it or not; or its fault
+-- whether parentheses are open after it, where they are open before it or not; or its fault
 unfoldable pub front_of : Bool → List ℕ → Result Front TextWhy
 front_of inside [] = Err BadToken
 front_of inside (byte ∷ rest) =
@@ -86,7 +86,7 @@ front_of inside (byte ∷ rest) =
     else if byte == quote then (quoted_from false 0 rest >>= λ size. Ok (one true (take size rest) (size + 1) inside))
     else (bare_from false 0 (byte ∷ rest) >>= λ size. Ok (one false (take size (byte ∷ rest)) (size - 1) inside))
 
--- the tokens of an entry behind some skipped bytes, with parentheses open or not, or the first lexical fault
+-- the tokens of an entry after some skipped bytes, with parentheses open or not, or the first lexical fault
 unfoldable pub tokens_from : ℕ → Bool → List ℕ → Result (List Token) TextWhy
 tokens_from skipped inside [] = if inside then Err OpenParen else Ok []
 tokens_from (suc skipped) inside (byte ∷ rest) = tokens_from skipped inside rest

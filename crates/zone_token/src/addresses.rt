@@ -75,14 +75,14 @@ fn read_groups(quad: bool, text: &[u8]) -> Option<Buffer<18>>
     let mut bytes = Buffer::<18>::new();
     let mut rest = text;
     for more in (0..MOST_GROUPS).rev() {
-        let Some((group, behind)) = cut(rest, b':') else {
+        let Some((group, after)) = cut(rest, b':') else {
             let last = read_last(quad, rest)?;
             bytes.push_slice(last.as_slice());
             return Some(bytes);
         };
         let group = read_group(group)?;
         bytes.push_slice(&group);
-        rest = behind;
+        rest = after;
     }
     None
 }
@@ -131,7 +131,7 @@ fn double_place(text: &[u8]) -> Option<usize>
     None
 }
 
-// What stands before the first two colons in a row, and what stands behind them.
+// What stands before the first two colons in a row, and what stands after them.
 fn cut_double(text: &[u8]) -> Option<(&[u8], &[u8])>
     ensures { MatchOption result (cut_double text.now ≡ None)
         (λ sides. cut_double text.now ≡ Some (sides.0.now, sides.1.now)) }

@@ -71,7 +71,7 @@ fn escaped_byte(text: &[u8]) -> Option<(u8, usize)>
     }
 }
 
-/// Whether these bytes behind a backslash begin a well-formed escape.
+/// Whether these bytes after a backslash begin a well-formed escape.
 pub(crate) fn is_escape(text: &[u8]) -> bool
     ensures { result ≡ is_escape text.now }
 {

@@ -73,7 +73,7 @@ pub fn bare_at<'a>(tokens: &[Token<'a>], place: usize) -> Option<&'a [u8]>
     }
 }
 
-/// Refuses a token at a place or behind it.
+/// Refuses a token at a place or after it.
 #[tactic(auto, unfolding(crate::specs::Fields::ends_at))]
 pub fn ends_at(tokens: &[Token], place: usize) -> Result<(), TextWhy>
     ensures { result ≡ ends_at tokens.now place }

@@ -27,11 +27,11 @@ pub struct Spot {
 }
 
 impl Part {
-    ghost use Rattle.zone_token.specs.Entries.{part_behind, unescaped, inside_behind, is_escaped, is_quoted};
+    ghost use Rattle.zone_token.specs.Entries.{part_after, unescaped, inside_after, is_escaped, is_quoted};
 
-    // The part behind the byte.
-    fn behind(self, byte: u8) -> Part
-        ensures { result ≡ part_behind self byte }
+    // The part after the byte.
+    fn after(self, byte: u8) -> Part
+        ensures { result ≡ part_after self byte }
     {
         match (self, byte) {
             (Part::Plain, b'"') => Part::Quoted,
@@ -46,7 +46,7 @@ impl Part {
         }
     }
 
-    // The part behind a byte that does not turn.
+    // The part after a byte that does not turn.
     fn unescaped(self) -> Part
         ensures { result ≡ unescaped self }
     {
@@ -57,9 +57,9 @@ impl Part {
         }
     }
 
-    // Whether parentheses are open behind the byte.
-    fn inside_behind(self, inside: bool, byte: u8) -> bool
-        ensures { result ≡ inside_behind self inside byte }
+    // Whether parentheses are open after the byte.
+    fn inside_after(self, inside: bool, byte: u8) -> bool
+        ensures { result ≡ inside_after self inside byte }
     {
         match (self, byte) {
             (Part::Plain, b'(') => true,
@@ -68,7 +68,7 @@ impl Part {
         }
     }
 
-    // Whether it stands behind a backslash.
+    // Whether it stands after a backslash.
     fn is_escaped(self) -> bool
         ensures { result ≡ is_escaped self }
     {
@@ -83,7 +83,7 @@ impl Part {
     }
 }
 
-// Whether another part may begin behind the byte where none is escaped, or parentheses open or close.
+// Whether another part may begin after the byte where none is escaped, or parentheses open or close.
 fn turns(byte: u8) -> bool
     ensures { result ≡ turns byte }
 {
@@ -116,7 +116,7 @@ fn size_until_turn(text: &[u8]) -> usize
 }
 
 impl Spot {
-    ghost use Rattle.zone_token.specs.Entries.{beginning, behind, ends_entry, still_size};
+    ghost use Rattle.zone_token.specs.Entries.{beginning, after, ends_entry, still_size};
 
     /// Where an entry begins.
     pub fn beginning() -> Spot
@@ -128,14 +128,14 @@ impl Spot {
         }
     }
 
-    /// The spot behind the byte.
-    pub fn behind(self, byte: u8) -> Spot
-        ensures { result ≡ behind self byte }
+    /// The spot after the byte.
+    pub fn after(self, byte: u8) -> Spot
+        ensures { result ≡ after self byte }
     {
         if turns(byte) {
             Spot {
-                part: self.part.behind(byte),
-                inside: self.part.inside_behind(self.inside, byte),
+                part: self.part.after(byte),
+                inside: self.part.inside_after(self.inside, byte),
             }
         } else {
             Spot {

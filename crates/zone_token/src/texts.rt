@@ -4,7 +4,7 @@ ghost use Rattle.zone_token.specs.Texts.{string_of};
 
 use crate::bytes::first_byte;
 use crate::cuts::first_place;
-use crate::tokens::behind;
+use crate::tokens::rest_after;
 use enum_base::{Buffer, Text255};
 
 /// The character-string of at most 255 bytes that a text with escapes stands for.
@@ -30,7 +30,7 @@ fn read_escaped(text: &[u8]) -> Option<Text255>
             return None;
         }
         bytes.push(byte);
-        rest = behind(rest, more);
+        rest = rest_after(rest, more);
     }
     Text255::from_bytes(bytes.as_slice())
 }

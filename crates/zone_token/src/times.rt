@@ -6,7 +6,7 @@ ghost use Rattle.std.specs.Result.{result_ok};
 ghost use Rattle.std.specs.Char.{is_ascii_digit};
 ghost use Rattle.enum_base.specs.Decimal.{number_up_to};
 ghost use Rattle.std.specs.Prelude.{◌+◌, option_and_then, unwrap_or, IfNone, Some};
-ghost use Rattle.zone_token.specs.Times.{most_seconds, seconds_of_unit, with_digit, seconds_behind, united_from, if_time, time_of};
+ghost use Rattle.zone_token.specs.Times.{most_seconds, seconds_of_unit, with_digit, seconds_after, united_from, if_time, time_of};
 
 use enum_base::read_u32;
 
@@ -47,13 +47,13 @@ fn if_time(seconds: u64) -> Option<u32>
     }
 }
 
-// The seconds and the number behind a byte, unless one of them is too great.
-fn seconds_behind(seconds: u64, number: Option<u64>, byte: u8) -> Option<(u64, Option<u64>)>
+// The seconds and the number after a byte, unless one of them is too great.
+fn seconds_after(seconds: u64, number: Option<u64>, byte: u8) -> Option<(u64, Option<u64>)>
     requires { (seconds ≤ most_seconds) × (unwrap_or number 0 ≤ most_seconds) }
-    ensures some { IfSome result (λ behind. seconds_behind seconds number byte ≡ Some behind) }
-    ensures small { IfSome result (λ behind. (behind.0 ≤ most_seconds) × (unwrap_or behind.1 0 ≤ most_seconds)) }
-    ensures none { IfNone result (ForSome (seconds_behind seconds number byte)
-        (λ behind. most_seconds < behind.0 + unwrap_or behind.1 0)) }
+    ensures some { IfSome result (λ after. seconds_after seconds number byte ≡ Some after) }
+    ensures small { IfSome result (λ after. (after.0 ≤ most_seconds) × (unwrap_or after.1 0 ≤ most_seconds)) }
+    ensures none { IfNone result (ForSome (seconds_after seconds number byte)
+        (λ after. most_seconds < after.0 + unwrap_or after.1 0)) }
 {
     if byte.is_ascii_digit() {
         let number = with_digit(number.unwrap_or(0), byte);
@@ -66,7 +66,7 @@ fn seconds_behind(seconds: u64, number: Option<u64>, byte: u8) -> Option<(u64, O
     }
 }
 
-// The seconds of digits with units behind them.
+// The seconds of digits with units after them.
 fn read_united(text: &[u8]) -> Option<u32>
     ensures { result ≡ option_and_then if_time (united_from 0 None text.now) }
 {
@@ -74,9 +74,9 @@ fn read_united(text: &[u8]) -> Option<u32>
     let mut number = None;
     let mut rest = text;
     while let [byte, after @ ..] = rest {
-        let behind = seconds_behind(seconds, number, *byte)?;
-        seconds = behind.0;
-        number = behind.1;
+        let next = seconds_after(seconds, number, *byte)?;
+        seconds = next.0;
+        number = next.1;
         rest = after;
     }
     if number.is_some() {
@@ -104,7 +104,7 @@ fn read_seconds(text: &[u8]) -> Option<u32>
     }
 }
 
-/// The seconds that a text stands for: digits, or digits with a unit `w`, `d`, `h`, `m` or `s` behind them, once or
+/// The seconds that a text stands for: digits, or digits with a unit `w`, `d`, `h`, `m` or `s` after them, once or
 /// more; at most 2,147,483,647.
 #[tactic(auto, unfolding(crate::specs::Times::time_of))]
 pub fn read_time(text: &[u8]) -> Option<u32>

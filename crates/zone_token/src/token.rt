@@ -66,7 +66,7 @@ fn closes(escaped: bool, byte: u8) -> bool
     !escaped && byte == b'"'
 }
 
-// Whether the first byte may stand in a bare token, behind a backslash or not.
+// Whether the first byte may stand in a bare token, after a backslash or not.
 fn is_bare(escaped: bool, text: &[u8]) -> bool
     ensures { result ≡ is_bare escaped text.now }
 {
@@ -76,7 +76,7 @@ fn is_bare(escaped: bool, text: &[u8]) -> bool
     }
 }
 
-// Whether the first byte may stand in a quoted token, behind a backslash or not.
+// Whether the first byte may stand in a quoted token, after a backslash or not.
 fn is_in_quotes(escaped: bool, text: &[u8]) -> bool
     ensures { result ≡ is_in_quotes escaped text.now }
 {
@@ -209,7 +209,7 @@ pub(crate) struct Front<'a> {
     pub(crate) token: Option<Token<'a>>,
     /// How many bytes it has beyond the first.
     pub(crate) more: usize,
-    /// Whether parentheses are open behind it.
+    /// Whether parentheses are open after it.
     pub(crate) inside: bool,
 }
 

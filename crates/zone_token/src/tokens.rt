@@ -18,8 +18,8 @@ fn append<'a>(tokens: &mut List<Token<'a>>, token: Option<Token<'a>>) -> Result<
     }
 }
 
-/// What stands behind the first byte and that many more.
-pub(crate) fn behind(text: &[u8], more: usize) -> &[u8]
+/// What stands after the first byte and that many more.
+pub(crate) fn rest_after(text: &[u8], more: usize) -> &[u8]
     requires { more < length text.now }
     ensures { result.now ≡ drop (more + 1) text.now }
 {
@@ -41,7 +41,7 @@ pub fn read_tokens<'a>(alloc: Global, entry: &'a [u8]) -> Result<List<Token<'a>>
         } = Front::read(rest, inside)?;
         append(&mut tokens, token)?;
         inside = open;
-        rest = behind(rest, more);
+        rest = rest_after(rest, more);
     }
     if inside {
         Err(TextWhy::OpenParen)

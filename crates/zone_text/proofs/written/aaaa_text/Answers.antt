@@ -12,5 +12,7 @@ returns c =
     let groups = c.segments-groups.ensures ∙ c.from_octets.ensures in
     let eight = ap length groups ∙ length-segments 8 c.args.address.now c.told-address in
     let first = c.push_group.ensures.value ∙ ap (λ text. (text ++ []) ++ hex (get_or c.segments-groups.result 0 0)) c.new-text.ensures in
-    c.loop-group.invariant.bytes ∙ ap (λ text. text ++ flat_map (λ group. codes ":" ++ hex group) (take c.loop-group.group-index (take 7 (drop 1 c.segments-groups.result)))) first
+    c.loop-group.invariant.bytes
+    ∙ ap (λ text. text ++ flat_map (λ group. codes ":"
+    ++ hex group) (take c.loop-group.group-index (take 7 (drop 1 c.segments-groups.result)))) first
     ∙ groups_end c.segments-groups.result c.loop-group.group-index eight c.loop-group-test.false ∙ ap groups_text groups

@@ -10,4 +10,6 @@ returns-clause-front c = held_front _ _ _ c.loop-string.invariant
 
 pub returns-clause-ok : goal.returns-clause-ok
 returns-clause-ok c =
-    c.loop-string.invariant ∙ ap (λ text. c.args.out.now ++ text) (strings_end c.args.strings.now c.loop-string.string-index c.in-len1-up.len_at_least c.loop-string-test.false)
+    c.loop-string.invariant ∙ ap (λ text. c.args.out.now
+    ++ text)
+    (strings_end c.args.strings.now c.loop-string.string-index c.in-len1-up.len_at_least c.loop-string-test.false)

@@ -15,7 +15,7 @@ returns-then-is_full c =
 pub loop-rest-preserved : goal.loop-rest-preserved
 loop-rest-preserved c = record {
   same = loop_goes_on _ _ _ _ _ _ _ c.loop-rest.invariant.same (search rules)
-      (sym c.first_byte.ensures.value ∙ c.in_ok-byte.was) c.push.ensures c.behind-rest.ensures;
+      (sym c.first_byte.ensures.value ∙ c.in_ok-byte.was) c.push.ensures c.rest_after-rest.ensures;
   most = room c.loop-rest.bytes c.push.new.self _ c.loop-rest.invariant.most c.is_full.ensures.1 c.if-is_full.false c.push.ensures;
 }
 

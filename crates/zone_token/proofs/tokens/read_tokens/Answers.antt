@@ -13,7 +13,7 @@ returns-in_err-token c =
 
 pub loop-rest-preserved : goal.loop-rest-preserved
 loop-rest-preserved c = loop_goes_on _ _ _ _ _ _ _ c.loop-rest.invariant (search rules)
-    (sym c.in_ok-token.ensures.value) c.in_ok-append.ensures c.behind-rest.ensures
+    (sym c.in_ok-token.ensures.value) c.in_ok-append.ensures c.rest_after-rest.ensures
 
 pub returns-then-inside : goal.returns-then-inside
 returns-then-inside c = λ known. loop_ends_open _ _ _ (rw c.if-inside.true at c.loop-rest.invariant) (search rules)
