@@ -129,7 +129,7 @@ impl ZoneReader {
     }
 }
 
-// Reads the entries that end in a piece, which stands behind the entry that has not ended, and drops them.
+// Reads the entries that end in a piece, which stands after the entry that has not ended, and drops them.
 fn advance(
     alloc: Global,
     left: &mut Bytes,
