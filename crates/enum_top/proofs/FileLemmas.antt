@@ -1,12 +1,14 @@
 -- What was read of a zone file, and what that comes to.
 use Rattle.std.proofs.Common.{◌≡◌, ◌≢◌, inl, inr, ℕ, ◌+◌, ◌≤◌, List, [], ◌∷◌, ◌++◌, length, take, drop, Option, Some}
-use Rattle.std.proofs.Common.{None, option_map, Result, Ok, Err, refl, sym, ap, subst, ◌∙◌, append_assoc}
+use Rattle.std.proofs.Common.{None, option_map, Result, Ok, Err, refl, sym, ap, subst, ◌∙◌, append_assoc, length-append}
+use Rattle.std.proofs.Common.{max, arith}
 use Rattle.std.specs.Prelude.{Contains, IsSome, true, false, unwrap_or}
 use Rattle.std.proofs.Math.Seq.{drop-append_seam}
 use Rattle.std.proofs.lemmas.List.{append-nil, take-append-drop}
 use Rattle.dns_wire.specs.declared.record.Record.{Record}
 use Rattle.enum_base.specs.Loading.{AreTaken, TakesAtMost}
 use Rattle.enum_base.proofs.OutsideLemmas.{after-twice}
+use Rattle.enum_base.specs.Causes.{many_more}
 use Rattle.enum_base.specs.Outside.{AreFirst, EndsAtEnd, File, Finds, Opens, ShelfState, WhereTold, after, file_of}
 use Rattle.naptr_data.proofs.CutLemmas.{Contains-none, head_or_after}
 use Rattle.naptr_data.specs.Zones.{Labels}
@@ -40,6 +42,8 @@ pub record IsFed (old new : ShelfState) (fed : Fed) : Type 0 where
   pub small : length fed.text ≤ most_bytes
   pub files : new.files ≡ old.files
   pub faults : new.faults ≡ old.faults
+  pub given : new.given ≤ length fed.text
+  pub most : new.most_given ≤ max old.most_given (length fed.text)
 
 front_and_rest : (bytes piece rest : List ℕ) (n : ℕ) → piece ≡ take n rest → bytes ++ rest ≡ (bytes ++ piece) ++ drop n rest
 front_and_rest bytes piece rest n is =
@@ -57,9 +61,13 @@ next_left old (Some rest) left' bytes piece n parts first then =
 
 pub fed_more : (old between new : ShelfState) (fed fed' : Fed) (piece : List ℕ) (n : ℕ) → IsFed old between fed
     → fed' ≡ record fed { text = fed.text ++ piece } → length fed'.text ≤ most_bytes → AreFirst n piece between.left
-    → new.left ≡ after n between.left → new.files ≡ between.files → new.faults ≡ between.faults → IsFed old new fed'
-fed_more old between new fed fed' piece n has is within first left files faults =
+    → new.left ≡ after n between.left → new.files ≡ between.files → new.faults ≡ between.faults → n ≤ length piece
+    → new.given ≡ many_more between.given n → new.most_given ≡ max between.most_given new.given → IsFed old new fed'
+fed_more old between new fed fed' piece n has is within first left files faults size counts greatest =
     let small : length (fed.text ++ piece) ≤ most_bytes = subst (λ (f : Fed). length f.text ≤ most_bytes) is within in
+    let parts = length-append fed.text piece in
+    let given = has.given in
+    let most = has.most in
     subst (IsFed old new) (sym is) (record {
       parts = next_left old.left between.left new.left fed.text piece n has.parts first left;
       origin = has.origin;
@@ -67,7 +75,16 @@ fed_more old between new fed fed' piece n has is within first left files faults 
       small = small;
       files = files ∙ has.files;
       faults = faults ∙ has.faults;
+      given = given_more between.given new.given (length fed.text) (length piece) (length (fed.text ++ piece)) n given counts size parts;
+      most = most_more old.most_given between.most_given new.most_given between.given new.given (length fed.text)
+          (length piece) (length (fed.text ++ piece)) n given most counts size greatest parts;
     })
+  where
+    given_more : (g g' t p tp n : ℕ) → g ≤ t → g' ≡ many_more g n → n ≤ p → tp ≡ t + p → g' ≤ tp
+    given_more g g' t p tp n given counts size parts = omega (arith, given, counts, size, parts)
+
+    most_more : (o b m g g' t p tp n : ℕ) → g ≤ t → b ≤ max o t → g' ≡ many_more g n → n ≤ p → m ≡ max b g' → tp ≡ t + p → m ≤ max o tp
+    most_more o b m g g' t p tp n given most counts size greatest parts = omega (arith, given, most, counts, size, greatest, parts)
 
 -- what was fed before and read now is taken from what was left at first
 pub taken_more : (bytes : List ℕ) (n : ℕ) (old left now : Option (List ℕ))

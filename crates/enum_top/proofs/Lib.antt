@@ -13,6 +13,7 @@ mod PrintLemmas
 mod ReportLemmas
 mod ResolveLemmas
 mod RunLemmas
+mod ShelfLemmas
 mod ShowLemmas
 mod SomeMessageLemmas
 mod SomeNumberLemmas

@@ -1,5 +1,5 @@
 -- What was done to the objects.
-use Rattle.std.proofs.Common.{◌≡◌, ℕ, ◌<◌, List, Option, Some, None, Result, Ok, Err, refl, sym, ap, subst, ◌∙◌, arith}
+use Rattle.std.proofs.Common.{◌≡◌, ℕ, List, Option, Some, None, Ok, Err, refl, sym, subst, ◌∙◌, arith}
 use Rattle.enum_base.specs.Causes.{Blames, HasCause}
 use Rattle.enum_base.specs.Loading.{AreTaken}
 use Rattle.enum_base.specs.Outside.{ShelfState, SinkState, SourceState}
@@ -18,7 +18,7 @@ idle count Blamed none = record {
 }
 
 pub idle_shelf : (shelf : ShelfState) (Blamed : Type 0) → (Blamed → ⊥) → ReadsShelf shelf shelf Blamed
-idle_shelf shelf Blamed none = record { files = refl; blamed = idle shelf.faults Blamed none }
+idle_shelf shelf Blamed none = record { files = refl; untold = λ files left. left; blamed = idle shelf.faults Blamed none; given = omega arith }
 
 none_taken : (most : ℕ) (left : Option (List ℕ)) → AreTaken most left left
 none_taken most None = (0, omega arith, refl)
@@ -33,7 +33,7 @@ module _ (Blamed Blamed' : Type 0) (to : Blamed → Blamed') (from : Blamed' →
   blames_as before now b = record { later = b.later; only = λ x. b.only (from x); always = λ less. to (b.always less) }
 
   pub shelf_as : (old new : ShelfState) → ReadsShelf old new Blamed → ReadsShelf old new Blamed'
-  shelf_as old new r = record { files = r.files; blamed = blames_as old.faults new.faults r.blamed }
+  shelf_as old new r = record { files = r.files; untold = r.untold; blamed = blames_as old.faults new.faults r.blamed; given = r.given }
 
   input_as : (old new : SourceState) → ReadsInput old new Blamed → ReadsInput old new Blamed'
   input_as old new r = record { blamed = blames_as old.faults new.faults r.blamed; taken = λ calm. r.taken (λ x. calm (to x)) }

@@ -1,5 +1,5 @@
 -- From the text of a request to what the run of it comes to.
-use Rattle.std.proofs.Common.{◌≡◌, inl, inr, ℕ, List, [], take, Result, Ok, Err, refl, sym, ap, subst}
+use Rattle.std.proofs.Common.{◌≡◌, inl, inr, ℕ, List, [], take, Ok, Err, refl, sym, ap, subst}
 use Rattle.enum_base.specs.Outside.{SinkState}
 use Rattle.enum_base.specs.Writing.{Gains}
 use Rattle.enum_base.proofs.OutsideLemmas.{with_more-nil}
@@ -8,7 +8,7 @@ use Rattle.request_words.specs.Words.{IsRequest, Means}
 use Rattle.request_words.specs.declared.request.Request.{Request}
 use Rattle.enum_top.specs.Requests.{work_of}
 use Rattle.enum_top.specs.Running.{DoesWork, HasNoVerdict, Runs}
-use Rattle.enum_top.specs.Verdicts.{Told, whole}
+use Rattle.enum_top.specs.Verdicts.{Told}
 use Rattle.enum_top.specs.Verdicts.Verdict.{prints}
 use Rattle.enum_top.specs.declared.cause.Cause.{Cause}
 use Rattle.enum_top.specs.declared.objects.Object.TheVariants.{Output}

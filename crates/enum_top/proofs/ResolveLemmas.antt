@@ -1,5 +1,5 @@
 -- The work of `resolve` comes to one verdict.
-use Rattle.std.proofs.Common.{◌≡◌, ℕ, List, [], Option, Some, None, Result, Ok, Err, refl, sym, ap, subst, ◌∙◌}
+use Rattle.std.proofs.Common.{◌≡◌, ℕ, List, [], Option, Some, None, Result, Ok, refl, sym, ap, subst, ◌∙◌}
 use Rattle.std.specs.Prelude.{IsSome}
 use Rattle.dns_name.specs.Name.{folded_labels}
 use Rattle.enum_base.proofs.StageLemmas.{IsSingle, IsSingle-then}

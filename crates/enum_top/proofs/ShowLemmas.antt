@@ -1,5 +1,5 @@
 -- The work of `show` comes to one verdict.
-use Rattle.std.proofs.Common.{◌≡◌, ℕ, List, Option, Some, None, refl, sym, subst}
+use Rattle.std.proofs.Common.{ℕ, List, Option, refl, sym, subst}
 use Rattle.enum_base.proofs.StageLemmas.{IsSingle}
 use Rattle.enum_top.specs.Showing.{Shows, show_work}
 use Rattle.enum_top.specs.Verdicts.{IsSound}

@@ -1,17 +1,21 @@
 -- What a part of the work does to the objects of the outside (this project's own).
-use Rattle.std.specs.Prelude.{◌≡◌, ℕ, ◌+◌}
+use Rattle.std.specs.Prelude.{◌≡◌, ◌+◌, ◌≤◌, max, None}
 use Rattle.enum_base.specs.Causes.{Blames}
 use Rattle.enum_base.specs.Loading.{AreTaken}
 use Rattle.enum_base.specs.Outside.{ShelfState, SinkState, SourceState}
+use Rattle.zone_text.specs.Zone.{most_bytes}
 use Rattle.enum_top.specs.Inputs.{most_input}
 use Rattle.enum_top.specs.declared.objects.Object.{Object}
 use Rattle.enum_top.specs.declared.objects.Object.TheVariants.{Shelf, Input, Output}
 use Rattle.enum_top.specs.declared.objects.Objects.{Objects}
 
--- a shelf was read: it tells the same files, and it is blamed exactly where its count rose
+-- a shelf was read: it tells the same files, and what it does not tell stays untold; it is blamed exactly where its count
+-- rose; and of no file more than 64 MiB and 4,096 bytes were given
 pub record ReadsShelf (old new : ShelfState) (Blamed : Type 0) : Type 0 where
   pub files : new.files ≡ old.files
+  pub untold : old.files ≡ None → old.left ≡ None → new.left ≡ None
   pub blamed : Blames old.faults new.faults Blamed
+  pub given : new.most_given ≤ max old.most_given (most_bytes + 4096)
 
 -- an input was read: it is blamed exactly where its count rose; where it is not, at most 16 MiB and 4,096 bytes are taken
 pub record ReadsInput (old new : SourceState) (Blamed : Type 0) : Type 0 where

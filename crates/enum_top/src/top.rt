@@ -1,10 +1,11 @@
 //! The top call.
-ghost use Rattle.std.specs.Prelude.{◌≡◌, ◌↔◌, ◌⊎◌, ℕ, ◌+◌, List, take, IsErrOf};
+ghost use Rattle.std.specs.Prelude.{◌≡◌, ◌↔◌, ◌⊎◌, ℕ, ◌+◌, ◌≤◌, max, List, take, None, IsErrOf};
 ghost use Rattle.enum_base.specs.Causes.{Blames, Rose};
 ghost use Rattle.enum_base.specs.Loading.{AreTaken};
 ghost use Rattle.enum_base.specs.Writing.{Gains, Takes};
 ghost use Rattle.request_words.specs.Words.{IsRequest, Means, texts_of};
 ghost use Rattle.request_words.specs.declared.request.Request.{Request};
+ghost use Rattle.zone_text.specs.Zone.{most_bytes};
 ghost use Rattle.enum_top.specs.FaultLines.{cause_line, line_of};
 ghost use Rattle.enum_top.specs.Handling.{Handles};
 ghost use Rattle.enum_top.specs.Inputs.{most_input};
@@ -72,6 +73,8 @@ pub fn run<S: Shelf, I: Source, O: Sink, E: Sink>(
 
     // The objects of the outside.
     ensures files { (S.state shelf.new).files ≡ (S.state shelf.old).files }
+    ensures untold { (S.state shelf.old).files ≡ None → (S.state shelf.old).left ≡ None → (S.state shelf.new).left ≡ None }
+    ensures given { (S.state shelf.new).most_given ≤ max (S.state shelf.old).most_given (most_bytes + 4096) }
     ensures shelf { Blames (S.state shelf.old).faults (S.state shelf.new).faults (result ≡ Status.Refused (Why.Outside Object.Shelf)) }
     ensures input { Blames (I.state input.old).faults (I.state input.new).faults (result ≡ Status.Refused (Why.Outside Object.Input)) }
     ensures output { Blames (O.state out.old).faults (O.state out.new).faults (result ≡ Status.Refused (Why.Outside Object.Output)) }

@@ -43,6 +43,7 @@ pub(crate) fn read_text<S: Shelf>(
 
 // Reads the records of what is left of the fetched file.
 fn read_rest<S: Shelf>(alloc: Global, place: usize, shelf: &mut S) -> Result<Records, Why>
+    requires { (S.state shelf.old).given ≡ 0 }
     ensures does { DoesOnShelf (LeftText (S.state shelf.old).left place) result }
     ensures shelf { ReadsShelf (S.state shelf.old) (S.state shelf.new) (IsErrOf result (Why.Outside Object.Shelf)) }
     ensures taken { ¬ IsErrOf result (Why.Outside Object.Shelf)

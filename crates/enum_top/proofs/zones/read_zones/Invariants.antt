@@ -1,5 +1,6 @@
-use Rattle.std.proofs.Common.{◌≡◌, drop}
+use Rattle.std.proofs.Common.{drop}
 use Rattle.request_words.specs.Words.{texts_of}
+use Rattle.enum_top.specs.Handling.{ReadsShelf}
 use Rattle.enum_top.proofs.FileLoopLemmas.{Leads}
 use Rattle.enum_top.proofs.zones.read_zones.Given as goal
 
@@ -7,6 +8,5 @@ abbrev pub invariant-loop-place : goal.invariant-loop-place
 invariant-loop-place g l =
     record {
       leads : Leads (g.S.Shelf.state l.initial.shelf).files (texts_of l.words) l.places (drop l.place-index l.places) l.zones;
-      files : (g.S.Shelf.state l.shelf).files ≡ (g.S.Shelf.state l.initial.shelf).files;
-      faults : (g.S.Shelf.state l.shelf).faults ≡ (g.S.Shelf.state l.initial.shelf).faults;
+      shelf : ReadsShelf (g.S.Shelf.state l.initial.shelf) (g.S.Shelf.state l.shelf) ⊥;
     }
