@@ -2,6 +2,7 @@
 #![tactic(auto)]
 
 mod client;
+mod derivation;
 mod domain_edges;
 mod edge;
 mod fault;

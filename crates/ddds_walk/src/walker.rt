@@ -1,17 +1,18 @@
 //! A walk under way.
-ghost use Rattle.std.specs.Prelude.{◌≡◌, ◌≢◌, ◌↔◌, ◌≤◌, ◌<◌, ◌+◌, [], ◌∷◌, ◌++◌, length, slice_get, filter_map};
+ghost use Rattle.std.specs.Prelude.{◌≡◌, ◌≢◌, ◌↔◌, ◌≤◌, ◌<◌, ◌+◌, [], ◌∷◌, ◌++◌, length, map, slice_get, filter_map};
 ghost use Rattle.std.specs.Prelude.{option_to_list, Contains, IsTrue, Some, None, IfOk, OnOk};
 ghost use Rattle.dns_name.specs.Name.{folded_labels};
 ghost use Rattle.naptr_data.specs.Sources.{AreDistinct, HasFewRules};
 ghost use Rattle.naptr_data.specs.declared.offer.Offer.TheVariants as Offer;
 ghost use Rattle.ddds_walk.specs.Clients.{meant};
 ghost use Rattle.ddds_walk.specs.Turns.{IsSound, IsAtStep, IsAtStop, IsOnTheWay, HasAsked, HasMoved, HasTurned, IsNextEnd};
-ghost use Rattle.ddds_walk.specs.Turns.{Notes, Opens, Sees, derivation_of};
+ghost use Rattle.ddds_walk.specs.Turns.{IsPlaced, Notes, Opens, Sees, at_root, derivation_of};
 ghost use Rattle.ddds_walk.specs.Ways.{domains_of};
 ghost use Rattle.ddds_walk.specs.declared.edge.Edge.TheVariants.{Step};
 ghost use Rattle.ddds_walk.specs.declared.walker.Turn.TheVariants as Turn;
 
 use crate::client::Client;
+use crate::derivation::Derivation;
 use crate::domain_edges::edges_of;
 use crate::edge::{Edge, Edges};
 use crate::fault::WalkFault;
@@ -59,24 +60,17 @@ pub(crate) enum Next {
 }
 
 impl Walker {
-    // A walk that stands at the root, from which one edge leads to the key.
-    pub(crate) fn start(alloc: Global, key: &Name) -> Result<Walker, MemoryFault>
-        ensures { IfOk result (λ w. w ≡ record {
-          asked = [];
-          ends = [];
-          below = [];
-          top = record { domain = None; edges = Step (folded_labels key.now) ∷ []; rank = 0 };
-        }) }
+    // A walk that stands at the root, from which one edge leads to each key.
+    pub(crate) fn start(alloc: Global, keys: &[Name]) -> Result<Walker, MemoryFault>
+        ensures { IfOk result (λ w. w ≡ at_root (map folded_labels keys.now)) }
     {
-        let mut edges = Edges::new(alloc);
-        edges.push(Edge::Step(key.fold()))?;
         Ok(Walker {
             asked: Names::new(alloc),
             ends: Ends::new(alloc),
             below: Frames::new(alloc),
             top: Frame {
                 domain: None,
-                edges,
+                edges: steps_to(alloc, keys)?,
                 rank: 0,
             },
         })
@@ -153,6 +147,7 @@ impl Walker {
 
     // The end of the terminal rule that is followed next.
     fn next_end(&self, alloc: Global) -> Result<End, MemoryFault>
+        requires placed { IsPlaced self.now }
         requires domain { self.now.top.domain ≢ None }
         requires here { IsAtStop self.now }
         ensures { IfOk result (IsNextEnd self.now) }
@@ -161,12 +156,16 @@ impl Walker {
             unreachable!();
         };
         match self.top.edges.as_slice().get(self.top.rank as usize) {
-            Some(Edge::Stop(rule, outcome)) => Ok(End {
-                ranks: self.derivation(alloc)?,
-                domain,
-                rule: Some(*rule),
-                outcome: outcome.copy(alloc)?,
-            }),
+            Some(Edge::Stop(rule, outcome)) => {
+                let Derivation { place, ranks } = self.derivation(alloc)?;
+                Ok(End {
+                    place,
+                    ranks,
+                    domain,
+                    rule: Some(*rule),
+                    outcome: outcome.copy(alloc)?,
+                })
+            }
             _ => unreachable!(),
         }
     }
@@ -203,9 +202,9 @@ impl Walker {
         requires on { IsOnTheWay self.now next.now }
         ensures moved { IfOk result (λ path. HasMoved limit self.now self.now (Turn.Back path)) }
     {
-        let ranks = self.derivation(alloc)?;
+        let Derivation { place, ranks } = self.derivation(alloc)?;
         let domains = self.domains(alloc, next)?;
-        Ok(LoopPath { ranks, domains })
+        Ok(LoopPath { place, ranks, domains })
     }
 
     // Passes over an edge to a domain that was asked for, and is not on the way.
@@ -249,6 +248,7 @@ impl Walker {
         offer: &Offer,
     ) -> Result<(), MemoryFault>
         requires few { HasFewRules offer.now }
+        requires placed { IsPlaced self.old }
         ensures asked { self.new.asked ≡ self.old.asked }
         ensures opens { OnOk result (Opens (meant P.meaning client.now) next.now offer.now self.old self.new) }
     {
@@ -264,14 +264,16 @@ impl Walker {
 
     // Notes an end where nobody serves the domain.
     fn note(&mut self, alloc: Global, next: &Name, offer: &Offer) -> Result<(), MemoryFault>
+        requires placed { IsPlaced self.old }
         ensures asked { self.new.asked ≡ self.old.asked }
         ensures notes { OnOk result (Notes next.now offer.now self.old self.new) }
     {
         if !is_unserved(offer) {
             return Ok(());
         }
-        let ranks = self.derivation(alloc)?;
+        let Derivation { place, ranks } = self.derivation(alloc)?;
         self.ends.push(End {
+            place,
             ranks,
             domain: *next,
             rule: None,
@@ -279,9 +281,31 @@ impl Walker {
         })
     }
 
-    // The derivation to the edge that is followed next, from the key on.
-    fn derivation(&self, alloc: Global) -> Result<Ranks, MemoryFault>
-        ensures { IfOk result (λ ranks. ranks ≡ derivation_of self.now) }
+    // The derivation to the edge that is followed next. The rank at the root is the place of the key.
+    fn derivation(&self, alloc: Global) -> Result<Derivation, MemoryFault>
+        requires placed { IsPlaced self.now }
+        ensures { IfOk result (λ way. way ≡ derivation_of self.now) }
+    {
+        Ok(Derivation {
+            place: self.place(),
+            ranks: self.ranks(alloc)?,
+        })
+    }
+
+    // The place of the key that the derivation leads from.
+    fn place(&self) -> u8
+        requires placed { IsPlaced self.now }
+        ensures { result ≡ (derivation_of self.now).place }
+    {
+        match self.below.as_slice() {
+            [] => self.top.rank as u8,
+            [root, ..] => root.rank as u8,
+        }
+    }
+
+    // The ranks of the derivation, from the key on.
+    fn ranks(&self, alloc: Global) -> Result<Ranks, MemoryFault>
+        ensures { IfOk result (λ ranks. ranks ≡ (derivation_of self.now).ranks) }
     {
         let mut ranks = Ranks::new(alloc);
         let Some((_, below)) = self.below.as_slice().split_first() else {
@@ -324,6 +348,17 @@ impl Walker {
             .iter()
             .any(|name| is_domain(Some(*name), *domain))
     }
+}
+
+// One edge to each key, folded.
+fn steps_to(alloc: Global, keys: &[Name]) -> Result<Edges, MemoryFault>
+    ensures { IfOk result (λ edges. edges ≡ map (λ key. Step key) (map folded_labels keys.now)) }
+{
+    let mut edges = Edges::new(alloc);
+    for key in keys {
+        edges.push(Edge::Step(key.fold()))?;
+    }
+    Ok(edges)
 }
 
 // Asks for a domain, unless so many were asked as the limit allows.
