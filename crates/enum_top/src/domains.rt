@@ -9,7 +9,6 @@ use dns_name::Name;
 pub(crate) struct Domains {
     pub(crate) count: usize,
     pub(crate) row: [Name; 8],
-    ghost few: { count ≤ 8 },
 }
 
 impl Domains {
@@ -21,6 +20,15 @@ impl Domains {
             count: 0,
             row: [Name::root(); 8],
         }
+    }
+
+    /// One domain.
+    pub(crate) fn one(domain: Name) -> Domains
+        ensures { listed result ≡ domain ∷ [] }
+    {
+        let mut domains = Domains::none();
+        domains.push(domain);
+        domains
     }
 
     /// One domain more, after the others.
@@ -37,6 +45,6 @@ impl Domains {
         ensures domains { result.now ≡ listed self.now }
         ensures few { length result.now ≤ 8 }
     {
-        &self.row[..self.count]
+        &self.row[..self.count.min(self.row.len())]
     }
 }

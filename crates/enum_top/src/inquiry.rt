@@ -85,12 +85,10 @@ fn ask_domain(
         Ok(wanted) => wanted,
         Err(cause) => return Err(cause),
     };
-    let mut keys = Domains::none();
-    keys.push(domain.key());
     Ok(Inquiry {
         string: domain.aus(),
         wanted,
-        keys,
+        keys: Domains::one(domain.key()),
     })
 }
 
@@ -149,14 +147,26 @@ fn read_apexes(words: &[String], apexes: &[usize]) -> Result<Domains, NameFault>
     requires few { length apexes.now ≤ 8 }
     ensures { domains_in result ≡ apexes_of (map (text_at (texts_of words.now)) apexes.now) }
 {
-    let mut tops = Domains::none();
     if apexes.is_empty() {
-        tops.push(default_apex());
+        Ok(Domains::one(default_apex()))
+    } else {
+        read_names(words, apexes)
     }
-    for place in apexes {
-        tops.push(read_apex(text_at(words, *place).as_bytes())?);
+}
+
+// The names at these places.
+fn read_names(words: &[String], places: &[usize]) -> Result<Domains, NameFault>
+    requires few { length places.now ≤ 8 }
+    ensures { domains_in result ≡ every (map apex_of (map (text_at (texts_of words.now)) places.now)) }
+{
+    let mut names = Domains::none();
+    for place in places {
+        match read_apex(text_at(words, *place).as_bytes()) {
+            Ok(name) => names.push(name),
+            Err(fault) => return Err(fault),
+        }
     }
-    Ok(tops)
+    Ok(names)
 }
 
 fn read_apex(text: &[u8]) -> Result<Name, NameFault>
@@ -172,7 +182,10 @@ fn keys_under(number: &Number, tops: &[Name]) -> Result<Domains, Cause>
 {
     let mut keys = Domains::none();
     for top in tops {
-        keys.push(key_under(number, top)?);
+        match key_under(number, top) {
+            Ok(key) => keys.push(key),
+            Err(cause) => return Err(cause),
+        }
     }
     Ok(keys)
 }
