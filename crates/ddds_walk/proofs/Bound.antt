@@ -1,5 +1,5 @@
 -- At most so many domains are needed as there are rules, aliases and keys: each is a key, or what one of these gives.
-use Rattle.std.proofs.Common.{◌≡◌, ℕ, zero, suc, ◌+◌, ◌≤◌, ◌⊎◌, List, [], ◌∷◌, ◌++◌, length, map, Option, Some, None}
+use Rattle.std.proofs.Common.{◌≡◌, ℕ, zero, suc, ◌+◌, ◌≤◌, ◌⊎◌, List, [], ◌∷◌, ◌++◌, length, map, Some}
 use Rattle.std.proofs.Common.{refl, sym, ◌∙◌, ap, subst, inl, inr, arith}
 use Rattle.std.specs.Prelude.{Contains, slice_get}
 use Rattle.std.proofs.lemmas.List.Elements.{Contains-append_left, Contains-append_right, Contains-append_cases}
@@ -9,7 +9,6 @@ use Rattle.naptr_data.specs.Zones.{Labels, Item, Owned, Zone, IsOffer, holds_one
 use Rattle.naptr_data.specs.Zones.Item.{rule, alias, delegation, other}
 use Rattle.naptr_data.specs.declared.offer.Offer.{Offer}
 use Rattle.naptr_data.specs.declared.offer.Offer.TheVariants as offer
-use Rattle.naptr_rule.specs.declared.rule.Naptr.{Naptr}
 use Rattle.naptr_data.proofs.OfferLemmas.{decides_among, alias_stands}
 use Rattle.subst_expr.specs.Laws.{OneOutput}
 use Rattle.ddds_walk.specs.declared.edge.Edge.TheVariants.{Step}
@@ -172,8 +171,8 @@ needed_bound out c zones keys names ds held n =
     let fit : length ds ≤ total (Brings c) count (one_brought out c) (counted c) (sources names zones) =
     brought_fit (Brings c) count (one_brought out c) (counted c) ds (sources names zones) n.once from in
     let both : total (Brings c) count (one_brought out c) (counted c) (sources names zones)
-        ≡ total (Brings c) count (one_brought out c) (counted c) (map (λ name. inl name) names)
-        + total (Brings c) count (one_brought out c) (counted c) (map (λ o. inr o) (items_of zones)) =
+    ≡ total (Brings c) count (one_brought out c) (counted c) (map (λ name. inl name) names)
+    + total (Brings c) count (one_brought out c) (counted c) (map (λ o. inr o) (items_of zones)) =
     total_append (Brings c) count (one_brought out c) (counted c) (map (λ name. inl name) names) (map (λ o. inr o) (items_of zones)) in
     let some : total (Brings c) count (one_brought out c) (counted c) (map (λ name. inl name) names) ≡ length names = total_keys out c names in
     let all : total (Brings c) count (one_brought out c) (counted c) (map (λ o. inr o) (items_of zones)) ≡ rules_and_aliases zones =

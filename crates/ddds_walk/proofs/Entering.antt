@@ -1,5 +1,5 @@
 -- Turns of a walk that ask: what each leaves, and the whole walk from its turns.
-use Rattle.std.proofs.Common.{◌≡◌, ◌↔◌, ℕ, zero, suc, ◌+◌, ◌<◌, ◌≤◌, ◌⊎◌, List, [], ◌∷◌, ◌++◌, length, drop, refl, sym, ◌∙◌, ap, subst, inl, inr, arith, map}
+use Rattle.std.proofs.Common.{◌≡◌, ◌↔◌, ℕ, zero, suc, ◌+◌, ◌<◌, ◌≤◌, ◌⊎◌, List, [], ◌∷◌, ◌++◌, length, refl, sym, ◌∙◌, ap, subst, inl, inr, arith, map}
 use Rattle.std.specs.Prelude.{Contains, Some, slice_get, Result, Ok, Err, IsErrAnd}
 use Rattle.std.specs.List.{sum_by}
 use Rattle.std.proofs.lemmas.List.{length-append, map-append}
@@ -23,7 +23,7 @@ use Rattle.ddds_walk.specs.Kept.{HasKept}
 use Rattle.ddds_walk.specs.Report.{IsNeeded, AreSomeNeeded}
 use Rattle.ddds_walk.specs.Rules.{Client, Yields, IsEdgeOf}
 use Rattle.ddds_walk.specs.Turns.{IsSound, IsWay, AreFolded, left_at, left_in, IsAt, HasMoved, Serves, Counts, HasTurned, HasAsked, Opens}
-use Rattle.ddds_walk.specs.Ways.{path_of, domains_of}
+use Rattle.ddds_walk.specs.Ways.{domains_of}
 use Rattle.ddds_walk.specs.declared.edge.Edge.{Edge}
 use Rattle.ddds_walk.specs.declared.edge.Edge.TheVariants.{Step}
 use Rattle.ddds_walk.specs.declared.fault.WalkFault.{WalkFault}

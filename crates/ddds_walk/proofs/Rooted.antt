@@ -1,6 +1,6 @@
 -- The graph with the root: what is true of ranks from the root is true of derivations, whose place is the first rank.
 use Rattle.std.proofs.Common.{◌≡◌, ℕ, ◌⊎◌, List, [], ◌∷◌, map, Option, Some, None, refl, sym, ◌∙◌, ap, subst, inl, inr}
-use Rattle.std.specs.Prelude.{Contains, slice_get}
+use Rattle.std.specs.Prelude.{Contains}
 use Rattle.naptr_data.specs.Sources.{AreDistinct}
 use Rattle.naptr_data.specs.Zones.{Labels}
 use Rattle.ddds_walk.specs.Graph.{Graph, Leads, LeadsFrom, Passes, PassesFrom}

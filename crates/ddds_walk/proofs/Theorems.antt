@@ -1,7 +1,7 @@
 -- Laws of reports, loops and needed domains.
-use Rattle.std.proofs.Common.{◌≡◌, ℕ, ◌⊎◌, List, ◌∷◌, Option, Some, refl, sym, ◌∙◌, ap, subst, inl, inr}
+use Rattle.std.proofs.Common.{◌≡◌, ℕ, ◌⊎◌, List, ◌∷◌, Some, refl, sym, ◌∙◌, subst, inl, inr}
 use Rattle.std.specs.Prelude.{Contains, slice_get}
-use Rattle.ddds_walk.specs.Graph.{Graph, Leads, Passes, LeadsFrom, PassesFrom}
+use Rattle.ddds_walk.specs.Graph.{Graph, Passes, LeadsFrom, PassesFrom}
 use Rattle.ddds_walk.specs.Order.{Less, Before}
 use Rattle.ddds_walk.specs.Report.{IsLeastLoop, HasNoLoop, IsNeeded}
 use Rattle.ddds_walk.specs.declared.derivation.Derivation.{Derivation}

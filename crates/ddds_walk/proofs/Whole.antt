@@ -41,12 +41,15 @@ going_start offers outputs c keys limit t few = record {
     once = tt;
     few = omega arith;
     below = tt;
-    top = (omega arith, record {
-      few = omega (arith, edges_few);
-      keys = λ e. edges_few;
-      folded = keys_fold keys;
-      root = λ e. no_stop (map folded_labels keys);
-    });
+    top = (
+      omega arith,
+      record {
+        few = omega (arith, edges_few);
+        keys = λ e. edges_few;
+        folded = keys_fold keys;
+        root = λ e. no_stop (map folded_labels keys);
+      },
+    );
     way = tt;
   };
   asks = refl;
