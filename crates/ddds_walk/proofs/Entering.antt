@@ -1,5 +1,5 @@
 -- Turns of a walk that ask: what each leaves, and the whole walk from its turns.
-use Rattle.std.proofs.Common.{◌≡◌, ◌↔◌, ℕ, zero, suc, ◌+◌, ◌<◌, ◌≤◌, ◌⊎◌, List, [], ◌∷◌, ◌++◌, length, drop, refl, sym, ◌∙◌, ap, subst, inl, inr, arith}
+use Rattle.std.proofs.Common.{◌≡◌, ◌↔◌, ℕ, zero, suc, ◌+◌, ◌<◌, ◌≤◌, ◌⊎◌, List, [], ◌∷◌, ◌++◌, length, refl, sym, ◌∙◌, ap, subst, inl, inr, arith, map}
 use Rattle.std.specs.Prelude.{Contains, Some, slice_get, Result, Ok, Err, IsErrAnd}
 use Rattle.std.specs.List.{sum_by}
 use Rattle.std.proofs.lemmas.List.{length-append, map-append}
@@ -23,7 +23,7 @@ use Rattle.ddds_walk.specs.Kept.{HasKept}
 use Rattle.ddds_walk.specs.Report.{IsNeeded, AreSomeNeeded}
 use Rattle.ddds_walk.specs.Rules.{Client, Yields, IsEdgeOf}
 use Rattle.ddds_walk.specs.Turns.{IsSound, IsWay, AreFolded, left_at, left_in, IsAt, HasMoved, Serves, Counts, HasTurned, HasAsked, Opens}
-use Rattle.ddds_walk.specs.Ways.{path_of, domains_of}
+use Rattle.ddds_walk.specs.Ways.{domains_of}
 use Rattle.ddds_walk.specs.declared.edge.Edge.{Edge}
 use Rattle.ddds_walk.specs.declared.edge.Edge.TheVariants.{Step}
 use Rattle.ddds_walk.specs.declared.fault.WalkFault.{WalkFault}
@@ -64,9 +64,10 @@ edge_folds c offer.Unserved r d e = absurd e
 pub edges_fold : (c : Client) (o : Offer) (edges : List Edge) → ((r : ℕ) (e : Edge) → (slice_get edges r ≡ Some e) ↔ IsEdgeOf c o r e) → AreFolded edges
 edges_fold c o edges told r d e = edge_folds c o r d ((told r (Step d)).0 e)
 
-pub key_folds : (key : Labels) → AreFolded (Step (folded_labels key) ∷ [])
-key_folds key zero d e = let f : d ≡ folded_labels key = cc in same_folds d key f
-key_folds key (suc r) d e = cc
+pub keys_fold : (keys : List Labels) → AreFolded (map (λ key. Step key) (map folded_labels keys))
+keys_fold [] r d e = cc
+keys_fold (key ∷ keys) zero d e = let f : d ≡ folded_labels key = cc in same_folds d key f
+keys_fold (key ∷ keys) (suc r) d e = keys_fold keys r d e
 
 module _ (c : Client) (limit : ℕ) (t : SourceState) (w w' : Walker) where
   -- a turn that asks nobody
@@ -82,14 +83,14 @@ module _ (c : Client) (limit : ℕ) (t : SourceState) (w w' : Walker) where
     };
     sound = m.sound;
     falls = λ e. m.falls (turn_is e);
-    told = λ zones key is s. (some zones key s, m.says c zones key s, λ n e. cc);
+    told = λ zones keys is s. (some zones keys s, m.says c zones keys s, λ n e. cc);
   }
     where
       turn_is : ◌≡◌ {A = Result Turn WalkFault} (Ok turn) (Ok On) → turn ≡ On
       turn_is e = cc
 
-      some : (zones : List Zone) (key : Labels) → IsAt c zones key w → AreSomeNeeded (graph_of c zones) key w'.asked
-      some zones key s = subst (λ v. AreSomeNeeded (graph_of c zones) key v) (sym m.asked) (record { once = sound.once; only = s.needed })
+      some : (zones : List Zone) (keys : List Labels) → IsAt c zones keys w → AreSomeNeeded (graph_of c zones) keys w'.asked
+      some zones keys s = subst (λ v. AreSomeNeeded (graph_of c zones) keys v) (sym m.asked) (record { once = sound.once; only = s.needed })
 
 -- counts that stand for one result stand for each that is refused in its place
 memory_counts : {A B : Type 0} (limit : ℕ) (t u : SourceState) (asked asked' : List Labels) (result : Result A WalkFault)
@@ -117,18 +118,18 @@ module _ (c : Client) (limit : ℕ) (t u : SourceState) (w w' : Walker) (asked :
     (new : ¬ Contains w.asked next) (away : ¬ (Contains (domains_of w.below) (Some next) ⊎ (w.top.domain ≡ Some next))) where
   -- what was asked is needed, with the domain of the edge or without
   some_needed : (w.asked ≡ asked) ⊎ (asked ≡ w.asked ++ next ∷ []) → w'.asked ≡ asked → AreDistinct asked
-      → (zones : List Zone) (key : Labels) → IsAt c zones key w → AreSomeNeeded (graph_of c zones) key w'.asked
-  some_needed cases same once zones key s =
-      subst (λ v. AreSomeNeeded (graph_of c zones) key v) (sym same)
+      → (zones : List Zone) (keys : List Labels) → IsAt c zones keys w → AreSomeNeeded (graph_of c zones) keys w'.asked
+  some_needed cases same once zones keys s =
+      subst (λ v. AreSomeNeeded (graph_of c zones) keys v) (sym same)
       (record { once = once; only = λ d h. only cases d h })
     where
-      only : (w.asked ≡ asked) ⊎ (asked ≡ w.asked ++ next ∷ []) → (d : Labels) → Contains asked d → IsNeeded (graph_of c zones) key d
+      only : (w.asked ≡ asked) ⊎ (asked ≡ w.asked ++ next ∷ []) → (d : Labels) → Contains asked d → IsNeeded (graph_of c zones) keys d
       only (inl e) d h = s.needed d (subst (λ v. Contains v d) (sym e) h)
       only (inr e) d h = by (Contains-push_cases w.asked next d (subst (λ v. Contains v d) e h))
         where
-          by : Contains w.asked d ⊎ (next ≡ d) → IsNeeded (graph_of c zones) key d
+          by : Contains w.asked d ⊎ (next ≡ d) → IsNeeded (graph_of c zones) keys d
           by (inl k) = s.needed d k
-          by (inr f) = subst (λ v. IsNeeded (graph_of c zones) key v) f (state_needed c zones key w.asked w.ends w.below w.top s next here away)
+          by (inr f) = subst (λ v. IsNeeded (graph_of c zones) keys v) f (state_needed c zones keys w.asked w.ends w.below w.top s next here away)
 
   turn_cases : (asked ≡ w.asked) ⊎ (asked ≡ w.asked ++ next ∷ []) → (w.asked ≡ asked) ⊎ (asked ≡ w.asked ++ next ∷ [])
   turn_cases (inl e) = inl (sym e)
@@ -148,15 +149,15 @@ module _ (c : Client) (limit : ℕ) (t u : SourceState) (w w' : Walker) (asked :
     counts = refused_counts limit t u w.asked w'.asked e (subst (λ v. Counts {A = Offer} limit t u w.asked v (Err e)) (sym same) a.counts);
     sound = tt;
     falls = λ h. cc;
-    told = λ zones key is s. (some_needed (turn_cases a.cases) same a.counts.once zones key s, tt, λ n h. past zones key s n (limits n h));
+    told = λ zones keys is s. (some_needed (turn_cases a.cases) same a.counts.once zones keys s, tt, λ n h. past zones keys s n (limits n h));
   }
     where
       limits : (n : ℕ) → ◌≡◌ {A = Result Turn WalkFault} (Err e) (Err (Limit n)) → ◌≡◌ {A = Result Offer WalkFault} (Err e) (Err (Limit n))
       limits n h = let f : e ≡ Limit n = cc in ap Err f
 
-      past : (zones : List Zone) (key : Labels) → IsAt c zones key w → (n : ℕ)
-          → ◌≡◌ {A = Result Offer WalkFault} (Err e) (Err (Limit n)) → NeedsMore (graph_of c zones) key limit
-      past zones key s n h =
+      past : (zones : List Zone) (keys : List Labels) → IsAt c zones keys w → (n : ℕ)
+          → ◌≡◌ {A = Result Offer WalkFault} (Err e) (Err (Limit n)) → NeedsMore (graph_of c zones) keys limit
+      past zones keys s n h =
           let m = a.counts.met n h in
           let l : length w.asked ≡ limit = ap length (sym (a.met n h)) ∙ m.1 in (
             w.asked ++ next ∷ [],
@@ -167,9 +168,9 @@ module _ (c : Client) (limit : ℕ) (t u : SourceState) (w w' : Walker) (asked :
             omega (arith, length-append w.asked (next ∷ [])),
           )
         where
-          by : (d : Labels) → Contains w.asked d ⊎ (next ≡ d) → IsNeeded (graph_of c zones) key d
+          by : (d : Labels) → Contains w.asked d ⊎ (next ≡ d) → IsNeeded (graph_of c zones) keys d
           by d (inl k) = s.needed d k
-          by d (inr f) = subst (λ v. IsNeeded (graph_of c zones) key v) f (state_needed c zones key w.asked w.ends w.below w.top s next here away)
+          by d (inr f) = subst (λ v. IsNeeded (graph_of c zones) keys v) f (state_needed c zones keys w.asked w.ends w.below w.top s next here away)
 
   memory_serves : {A B : Type 0} (result : Result A WalkFault) → Serves t u result → Serves {A = B} t u (Err Memory)
   memory_serves result s = record { zones = s.zones; room = s.room; lent = s.lent; later = s.later; trouble = λ h. cc }
@@ -182,7 +183,7 @@ module _ (c : Client) (limit : ℕ) (t u : SourceState) (w w' : Walker) (asked :
     counts = memory_counts limit t u w.asked w'.asked (Ok o) (subst (λ v. Counts {A = Offer} limit t u w.asked v (Ok o)) (sym same) a.counts);
     sound = tt;
     falls = λ h. cc;
-    told = λ zones key is s. (some_needed (turn_cases a.cases) same a.counts.once zones key s, tt, λ n h. cc);
+    told = λ zones keys is s. (some_needed (turn_cases a.cases) same a.counts.once zones keys s, tt, λ n h. cc);
   }
 
   -- the same of an answer that is known by what it refuses
@@ -210,7 +211,7 @@ module _ (c : Client) (limit : ℕ) (t u : SourceState) (w w' : Walker) (asked :
     };
     sound = sound_there;
     falls = λ h. falls;
-    told = λ zones key is s. (some_needed (inr grew) opens.asked a.counts.once zones key s, at zones key is s, λ n h. cc);
+    told = λ zones keys is s. (some_needed (inr grew) opens.asked a.counts.once zones keys s, at zones keys is s, λ n h. cc);
   }
     where
       grew : asked ≡ w.asked ++ next ∷ []
@@ -233,7 +234,7 @@ module _ (c : Client) (limit : ℕ) (t u : SourceState) (w w' : Walker) (asked :
         once = a.counts.once;
         few = a.counts.few;
         below = past_push w.below w.top sound.below (rank_in, sound.top.1);
-        top = (omega arith, record { few = opens.few; folded = edges_fold c o opens.edges opens.told; root = λ e. cc });
+        top = (omega arith, record { few = opens.few; keys = λ e. cc; folded = edges_fold c o opens.edges opens.told; root = λ e. cc });
         way = subst (λ v. IsWay (v ++ Some next ∷ [])) (sym (map-append (λ (x : Frame). x.domain) w.below (w.top ∷ [])))
             (way_push (domains_of w.below ++ w.top.domain ∷ []) next sound.way);
       }
@@ -253,11 +254,11 @@ module _ (c : Client) (limit : ℕ) (t u : SourceState) (w w' : Walker) (asked :
       falls : left_in limit w' < left_in limit w
       falls = subst (λ v. left_in limit v < left_in limit w) is falls_opened
 
-      at : (zones : List Zone) (key : Labels) → t.zones ≡ Some zones → IsAt c zones key w → IsAt c zones key w'
-      at zones key is-told s = subst (λ v. IsAt c zones key v) is
-          (subst (λ v. IsAt c zones key (record opened { asked = v })) (sym grew)
-          (state_enter c zones key w.asked w.ends w.below w.top s next here o opens.edges w'.ends (drop 1 (path_of w.below ++ w.top.rank ∷ []))
-          new away offered opens.told refl opens.ends))
+      at : (zones : List Zone) (keys : List Labels) → t.zones ≡ Some zones → IsAt c zones keys w → IsAt c zones keys w'
+      at zones keys is-told s = subst (λ v. IsAt c zones keys v) is
+          (subst (λ v. IsAt c zones keys (record opened { asked = v })) (sym grew)
+          (state_enter c zones keys w.asked w.ends w.below w.top s next here o opens.edges w'.ends
+          new away offered opens.told opens.ends))
         where
           offered : IsOffer zones next o
           offered = subst (λ v. WhereTold v (λ zones. IsOffer zones next o)) is-told a.offered.2

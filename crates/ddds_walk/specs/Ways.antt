@@ -39,26 +39,29 @@ module _ {V : Type 0} (g : Graph V) where
   EndsAs k (r ∷ rs) e =
       (g.Stops k r × (rs ≡ []) × (e ≡ by_rule k r)) ⊎ ((m : V) × g.Steps k r m × EndsAs m rs e)
 
-  -- ranks from the start lead round: to one of the domains that they pass, which are distinct
-  pub record IsRound (start : V) (ranks : List ℕ) (earlier : List V) (last : V) : Type 0 where
-    pub leads : Leads g start ranks last
-    pub passes : Passes g start ranks earlier
-    pub again : Contains earlier last
-    pub others : AreDistinct earlier
+-- ranks from a start lead round: to one of the domains that they pass, which are distinct
+pub record IsRound {V : Type 0} (g : Graph V) (start : V) (ranks : List ℕ) (earlier : List V) (last : V) : Type 0 where
+  pub leads : Leads g start ranks last
+  pub passes : Passes g start ranks earlier
+  pub again : Contains earlier last
+  pub others : AreDistinct earlier
 
-  -- .. and none before them
-  pub record IsLeastRound (start : V) (ranks : List ℕ) (earlier : List V) (last : V) : Type 0 where
-    pub loop : IsRound start ranks earlier last
-    pub least : (ls : List ℕ) (ds : List V) (d : V) → IsRound start ls ds d → Less ls ranks → ⊥
+-- .. and no lesser ranks do
+pub record IsLeastRound {V : Type 0} (g : Graph V) (start : V) (ranks : List ℕ) (earlier : List V)
+    (last : V) : Type 0 where
+  pub loop : IsRound g start ranks earlier last
+  pub least : (ls : List ℕ) (ds : List V) (d : V) → IsRound g start ls ds d → Less ls ranks → ⊥
 
-  -- no ranks from the start lead round
-  abbrev pub HasNoRound : V → Type 0
-  HasNoRound start = (ls : List ℕ) (ds : List V) (d : V) → IsRound start ls ds d → ⊥
+-- no ranks from the start lead round
+abbrev pub HasNoRound : {V : Type 0} → Graph V → V → Type 0
+HasNoRound {V} g start = (ls : List ℕ) (ds : List V) (d : V) → IsRound g start ls ds d → ⊥
 
-  -- a walk from the start has to open the domain
-  abbrev pub IsMet : V → V → Type 0
-  IsMet start d =
-      (rs : List ℕ) × Leads g start rs d × ((ls : List ℕ) (ds : List V) (x : V) → IsLeastRound start ls ds x → Less rs ls)
+-- a walk from the start has to open the domain
+abbrev pub IsMet : {V : Type 0} → Graph V → V → V → Type 0
+IsMet {V} g start d =
+    (rs : List ℕ)
+    × Leads g start rs d
+    × ((ls : List ℕ) (ds : List V) (x : V) → IsLeastRound g start ls ds x → Less rs ls)
 
 -- the derivations and the marks of what was found
 abbrev pub ranks_of : {V : Type 0} → List (Found V) → List (List ℕ)

@@ -204,7 +204,11 @@ impl Walker {
     {
         let Derivation { place, ranks } = self.derivation(alloc)?;
         let domains = self.domains(alloc, next)?;
-        Ok(LoopPath { place, ranks, domains })
+        Ok(LoopPath {
+            place,
+            ranks,
+            domains,
+        })
     }
 
     // Passes over an edge to a domain that was asked for, and is not on the way.

@@ -1,4 +1,5 @@
 use Rattle.std.proofs.Common.{refl}
+use Rattle.ddds_walk.proofs.Sound.{is_placed}
 use Rattle.ddds_walk.proofs.Entering.{refused_by, memory_by, turned_on}
 use Rattle.ddds_walk.proofs.walker.Walker.enter.Goals as goal
 
@@ -21,3 +22,6 @@ returns g c = record {
   turned = turned_on _ c.args.limit _ _ c.args.self.now _ c.ask.new.asked c.args.next.now
       c.requires.sound c.requires.here c.requires.new c.requires.away c.in_ok-offer.offer c.in_ok-offer.ensures.asked c.in_ok-open.ensures.opens;
 }
+
+pub open-requires-clause-placed : goal.open-requires-clause-placed
+open-requires-clause-placed g c = is_placed c.args.limit c.args.self.now c.requires.sound
