@@ -10,9 +10,9 @@ use Rattle.zone_token.specs.declared.fault.TextWhy.{TextWhy}
 use Rattle.zone_token.specs.declared.fault.TextWhy.TheVariants.{BadToken, OpenQuote, OpenParen, Memory}
 
 -- what was read is what a definition gives, unless memory was wanting
-abbrev pub Gives : {A : Type 0} → Result A TextWhy → Result A TextWhy → Type 0
-Gives (Ok x) read = read ≡ Ok x
-Gives (Err why) read = why ≢ Memory → read ≡ Err why
+abbrev pub GivesOrMemory : {A : Type 0} → Result A TextWhy → Result A TextWhy → Type 0
+GivesOrMemory (Ok x) read = read ≡ Ok x
+GivesOrMemory (Err why) read = why ≢ Memory → read ≡ Err why
 
 infixl 10 ◌>>=◌
 abbrev pub ◌>>=◌ : {A B : Type 0} → Result A TextWhy → (A → Result B TextWhy) → Result B TextWhy

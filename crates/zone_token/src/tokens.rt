@@ -1,7 +1,7 @@
 //! The tokens of an entry.
 ghost use Rattle.std.specs.Prelude.{◌≡◌, ◌++◌, ◌<◌, ◌+◌, drop, length, OnOk};
 ghost use Rattle.std.specs.Option.{option_to_list};
-ghost use Rattle.zone_token.specs.Tokens.{Gives, tokens_of};
+ghost use Rattle.zone_token.specs.Tokens.{GivesOrMemory, tokens_of};
 
 use crate::fault::TextWhy;
 use crate::token::{Front, Token};
@@ -28,7 +28,7 @@ pub(crate) fn rest_after(text: &[u8], more: usize) -> &[u8]
 
 /// The tokens of an entry, or its first lexical fault.
 pub fn read_tokens<'a>(alloc: Global, entry: &'a [u8]) -> Result<List<Token<'a>>, TextWhy>
-    ensures { Gives result (tokens_of entry.now) }
+    ensures { GivesOrMemory result (tokens_of entry.now) }
 {
     let mut tokens = List::new(alloc);
     let mut inside = false;
