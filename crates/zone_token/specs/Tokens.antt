@@ -98,3 +98,10 @@ tokens_from zero inside (byte ∷ rest) = do
 -- the tokens of an entry, or its first lexical fault
 unfoldable pub tokens_of : List ℕ → Result (List Token) TextWhy
 tokens_of entry = tokens_from 0 false entry
+
+-- an entry that is blank but for a comment that ends it (RFC 1035, 5.1: `<blank>[<comment>]`); a comment ends with its line
+abbrev pub is_blank_entry : List ℕ → Bool
+is_blank_entry [] = true
+is_blank_entry (byte ∷ rest) =
+    if is_blank (byte ∷ rest) || byte == line_feed then is_blank_entry rest
+    else byte == semicolon && nat_le (length rest) (comment_size rest + 1)

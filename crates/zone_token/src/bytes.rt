@@ -4,8 +4,8 @@ ghost use Rattle.zone_token.specs.Bytes.{is_line_end, is_blank, is_visible, is_q
 
 use enum_base::escaped_byte;
 
-// Whether a line feed stands at the front.
-fn is_line_end(text: &[u8]) -> bool
+/// Whether a line feed stands at the front.
+pub(crate) fn is_line_end(text: &[u8]) -> bool
     ensures { result ≡ is_line_end text.now }
 {
     matches!(text, [b'\n', ..])
