@@ -5,7 +5,7 @@ use Rattle.enum_base.specs.Causes.{Rose}
 use Rattle.enum_base.specs.Outside.{WhereTold}
 use Rattle.dns_name.specs.Name.{folded_labels}
 use Rattle.naptr_data.specs.Laws.{ZonesMakeOneOffer}
-use Rattle.naptr_data.specs.Sources.{RuleSourceState}
+use Rattle.naptr_data.specs.Sources.{RuleSourceState as SourceState}
 use Rattle.naptr_data.specs.Zones.{Labels, Zone, rules_and_aliases}
 use Rattle.naptr_rule.specs.declared.rule.Naptr.{Naptr}
 use Rattle.subst_expr.specs.Laws.{OneOutput}
@@ -33,7 +33,7 @@ use Rattle.ddds_walk.proofs.StateMore.{state_start}
 abbrev pub at_root : Labels → Walker
 at_root key = record { asked = []; ends = []; below = []; top = record { domain = None; edges = Step key ∷ []; rank = 0 } }
 
-pub going_start : ZonesMakeOneOffer → OneOutput → (c : Client) (key : Labels) (limit : ℕ) (t : RuleSourceState)
+pub going_start : ZonesMakeOneOffer → OneOutput → (c : Client) (key : Labels) (limit : ℕ) (t : SourceState)
     → IsGoing c (folded_labels key) limit t t (at_root (folded_labels key))
 going_start offers outputs c key limit t = record {
   zones = refl;
@@ -59,7 +59,7 @@ going_start offers outputs c key limit t = record {
 rose_from : (a b c : ℕ) → a ≤ b → Rose b c → Rose a c
 rose_from a b c l h = grind arith
 
-module _ (c : Client) (key : Labels) (limit : ℕ) (t u v : RuleSourceState) (w w' : Walker) (g : IsGoing c key limit t u w) where
+module _ (c : Client) (key : Labels) (limit : ℕ) (t u v : SourceState) (w w' : Walker) (g : IsGoing c key limit t u w) where
   kept_on : (result : Result Turn WalkFault) → HasTurned c limit u v w w' result → IsWhole result
       → HasKept t.room t.kept t.fetched w'.asked v.kept v.fetched
   kept_on result h k = subst (λ r. HasKept r t.kept t.fetched w'.asked v.kept v.fetched) g.room
@@ -134,7 +134,7 @@ module _ (c : Client) (key : Labels) (limit : ℕ) (t u v : RuleSourceState) (w 
       whole Trouble x = x
       whole Memory x = x
 
-module _ (c : Client) (key : Labels) (limit : ℕ) (t u v : RuleSourceState) (w w' : Walker) (g : IsGoing c key limit t u w) where
+module _ (c : Client) (key : Labels) (limit : ℕ) (t u v : SourceState) (w w' : Walker) (g : IsGoing c key limit t u w) where
   -- the same of an answer that is known by what it refuses
   pub err_by : (r : Result Report WalkFault) (e : WalkFault) → IsErrAnd r (λ x. x ≡ e) → HasTurned c limit u v w w' (Err e)
       → HasWalked c key limit t v r
@@ -142,12 +142,12 @@ module _ (c : Client) (key : Labels) (limit : ℕ) (t u v : RuleSourceState) (w 
   err_by (Err x) e h turned = subst (λ y. HasWalked c key limit t v (Err y)) (sym h) (walked_err c key limit t u v w w' g e turned)
 
 -- the same, of a walk and a turn that are known by equations
-pub going_at : ZonesMakeOneOffer → OneOutput → (c : Client) (key : Labels) (limit : ℕ) (t : RuleSourceState) (w : Walker)
+pub going_at : ZonesMakeOneOffer → OneOutput → (c : Client) (key : Labels) (limit : ℕ) (t : SourceState) (w : Walker)
     → w ≡ at_root (folded_labels key) → IsGoing c (folded_labels key) limit t t w
 going_at offers outputs c key limit t w e =
     subst (λ v. IsGoing c (folded_labels key) limit t t v) (sym e) (going_start offers outputs c key limit t)
 
-module _ (c : Client) (key : Labels) (limit : ℕ) (t u v : RuleSourceState) (w w' : Walker) (g : IsGoing c key limit t u w)
+module _ (c : Client) (key : Labels) (limit : ℕ) (t u v : SourceState) (w w' : Walker) (g : IsGoing c key limit t u w)
     (turn : Turn) (h : HasTurned c limit u v w w' (Ok turn)) where
   pub going_by : turn ≡ On → IsGoing c key limit t v w'
   going_by e = going_on c key limit t u v w w' g (subst (λ x. HasTurned c limit u v w w' (Ok x)) e h)
@@ -159,7 +159,7 @@ module _ (c : Client) (key : Labels) (limit : ℕ) (t u v : RuleSourceState) (w 
   back_by path e = walked_back c key limit t u v w w' g path (subst (λ x. HasTurned c limit u v w w' (Ok x)) e h)
 
 -- a walk for which memory was wanting before it began
-pub walked_nothing : (c : Client) (key : Labels) (limit : ℕ) (t : RuleSourceState) → HasWalked c key limit t t (Err Memory)
+pub walked_nothing : (c : Client) (key : Labels) (limit : ℕ) (t : SourceState) → HasWalked c key limit t t (Err Memory)
 walked_nothing c key limit t = record {
   asked = [];
   serves = record { zones = refl; room = refl; lent = refl; later = omega arith; trouble = λ e. cc };
@@ -174,7 +174,7 @@ walked_nothing c key limit t = record {
     none : (d : Labels) → Contains [] d → ⊥
     none d h = omega (arith, h.1)
 
-pub nothing_by : (c : Client) (key : Labels) (limit : ℕ) (t : RuleSourceState) (r : Result Report WalkFault) → IsErrAnd r (λ x. x ≡ Memory)
+pub nothing_by : (c : Client) (key : Labels) (limit : ℕ) (t : SourceState) (r : Result Report WalkFault) → IsErrAnd r (λ x. x ≡ Memory)
     → HasWalked c key limit t t r
 nothing_by c key limit t (Ok report) h = absurd h
 nothing_by c key limit t (Err x) h = subst (λ v. HasWalked c key limit t t (Err v)) (sym h) (walked_nothing c key limit t)
@@ -188,7 +188,7 @@ ok_of (Ok x) q = q
 ok_of (Err e) q = tt
 
 -- what the public clauses of a walk say, each from its one record
-module _ (c : Client) (key : Labels) (limit : ℕ) (t u : RuleSourceState) (result : Result Report WalkFault)
+module _ (c : Client) (key : Labels) (limit : ℕ) (t u : SourceState) (result : Result Report WalkFault)
     (h : HasWalked c key limit t u result) where
   pub says_bound : ((c : Client) (zones : List Zone) (key : Labels) (ds : List Labels) → AreSomeNeeded (graph_of c zones) key ds
       → length ds ≤ rules_and_aliases zones + 1) → WhereTold t.zones (λ zones. OnOk result (AsksAtMost (rules_and_aliases zones + 1) t.asks u.asks))
