@@ -4,7 +4,7 @@ use Rattle.std.specs.Prelude.{Contains, Ok, Err, IsTrue}
 use Rattle.std.proofs.lemmas.List.{length-append}
 use Rattle.enum_base.specs.Causes.{Rose, one_more}
 use Rattle.enum_base.specs.Outside.{WhereTold}
-use Rattle.naptr_data.specs.Sources.{SourceState, AreDistinct, HasFewRules, BringsToFront, Fetches, AreKept}
+use Rattle.naptr_data.specs.Sources.{RuleSourceState as SourceState, AreDistinct, HasFewRules, BringsToFront, Fetches, AreKept}
 use Rattle.naptr_data.specs.Zones.{Labels, IsOffer}
 use Rattle.naptr_data.specs.declared.offer.Offer.{Offer}
 use Rattle.ddds_walk.specs.Asking.{more}

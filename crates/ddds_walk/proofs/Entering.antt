@@ -10,7 +10,7 @@ use Rattle.std.proofs.lemmas.Str.Ascii.{lowercase-lowercase}
 use Rattle.enum_base.specs.Folding.{folded}
 use Rattle.enum_base.specs.Outside.{WhereTold}
 use Rattle.dns_name.specs.Name.{folded_labels}
-use Rattle.naptr_data.specs.Sources.{SourceState, AreDistinct}
+use Rattle.naptr_data.specs.Sources.{RuleSourceState as SourceState, AreDistinct}
 use Rattle.naptr_data.specs.Zones.{Labels, Zone, IsOffer}
 use Rattle.naptr_data.specs.declared.offer.Offer.{Offer}
 use Rattle.naptr_data.specs.declared.offer.Offer.TheVariants as offer

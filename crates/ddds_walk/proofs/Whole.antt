@@ -6,7 +6,7 @@ use Rattle.enum_base.specs.Causes.{Rose}
 use Rattle.enum_base.specs.Outside.{WhereTold}
 use Rattle.dns_name.specs.Name.{folded_labels}
 use Rattle.naptr_data.specs.Laws.{ZonesMakeOneOffer}
-use Rattle.naptr_data.specs.Sources.{SourceState}
+use Rattle.naptr_data.specs.Sources.{RuleSourceState as SourceState}
 use Rattle.naptr_data.specs.Zones.{Labels, Zone, rules_and_aliases}
 use Rattle.naptr_rule.specs.declared.rule.Naptr.{Naptr}
 use Rattle.subst_expr.specs.Laws.{OneOutput}
