@@ -28,7 +28,7 @@ impl Listed {
             lines: Vec::new(alloc),
         };
         zone.put(alloc, apex, 6, 0)?;
-        for number in 1..random.below(20) + 1 {
+        for number in 1..=random.below(20) {
             let owner = name_under(alloc, random, apex, 3)?;
             let kind = kind(random, owner.as_str());
             if zone.takes(owner.as_str(), kind) {

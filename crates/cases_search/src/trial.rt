@@ -38,7 +38,7 @@ pub fn tried(
 // One to three zones, no two of one apex.
 fn made(alloc: Global, random: &mut Random) -> Result<Vec<Listed>, MemoryFault> {
     let mut zones: Vec<Listed> = Vec::new(alloc);
-    for _ in 0..random.below(3) + 1 {
+    for _ in 0..=random.below(3) {
         let apex = apex(random);
         let zone = Listed::made(alloc, random, apex)?;
         if !holds(zones.as_slice(), apex) {
