@@ -106,7 +106,8 @@ fn kind(random: &mut Random, owner: &str) -> u16 {
     }
 }
 
-fn word(kind: u16) -> &'static str {
+/// The name of a type.
+pub fn word(kind: u16) -> &'static str {
     match kind {
         1 => "A",
         2 => "NS",

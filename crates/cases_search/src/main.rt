@@ -8,12 +8,10 @@
 //! The file stdout has the counts by `counts.py`, which makes the same zones and searches them in a third way.
 #![tactic(auto)]
 
-mod found;
 mod listed;
 mod names;
 mod random;
 mod search;
-mod tally;
 mod trial;
 
 use cases_text::{Cases, line_of, number_of, print_cases};

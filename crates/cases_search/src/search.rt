@@ -1,7 +1,7 @@
 //! The search in lists: what stands at a name, by passes over the records of a zone and by nothing else (RFC 1034, 4.3.2;
 //! RFC 4592, 2.2 and 3.3).
 
-use crate::listed::Listed;
+use crate::listed::{Listed, word};
 use crate::names::{is_below, parent};
 use enum_base::MemoryFault;
 use std::alloc::Global;
@@ -14,7 +14,7 @@ pub fn searched(
     kind: u16,
 ) -> Result<String, MemoryFault> {
     let Some(zone) = deciding(zones, name) else {
-        return told(alloc, "outside");
+        return Ok("outside\n".to_string(alloc)?);
     };
     if let Some(cut) = highest_cut(zone, name) {
         return set(alloc, "cut", zone, cut, 2);
@@ -104,10 +104,6 @@ fn least(zone: &Listed, name: &str) -> u16 {
     least
 }
 
-fn told(alloc: Global, case: &str) -> Result<String, MemoryFault> {
-    Ok(case.to_string(alloc)?)
-}
-
 // A case, and each record of a name and a type.
 fn set(
     alloc: Global,
@@ -116,12 +112,12 @@ fn set(
     name: &str,
     kind: u16,
 ) -> Result<String, MemoryFault> {
-    let mut told = case.to_string(alloc)?;
+    let mut told = format!(in alloc; "{case}\n")?;
     for line in &zone.lines {
         if line.kind == kind && line.owner.as_str() == name {
             let owner = if name.is_empty() { "." } else { name };
-            let fields = line.fields.as_str();
-            told.push_str(format!(in alloc; "\n{owner} {kind} {fields}")?.as_str())?;
+            let (word, fields) = (word(kind), line.fields.as_str());
+            told.push_str(format!(in alloc; "  {owner} 60 IN {word} {fields}\n")?.as_str())?;
         }
     }
     Ok(told)

@@ -1,21 +1,15 @@
 //! Trials: sets of zones at random, and what they find beside what the search in their lists finds.
-ghost use Rattle.std.specs.Prelude.{IfOk, Contains};
-ghost use Rattle.dns_wire.specs.declared.record.Record as spec;
-ghost use Rattle.zone_build.specs.Zone.{IsPlain};
 
-use crate::found::told;
 use crate::listed::Listed;
 use crate::names::{apex, name_under, parent, written};
 use crate::random::Random;
 use crate::search::searched;
-use crate::tally::Tally;
-use cases_text::name_of;
+use cases_records::{Tally, case_of, push_records, read_records, records_found};
+use cases_text::{name_of, text_of};
 use dns_name::Name;
-use dns_wire::Records;
-use enum_base::MemoryFault;
+use enum_base::{Bytes, MemoryFault};
 use std::alloc::Global;
-use zone_db::{Zone, ZoneSet};
-use zone_text::{TextFault, ZoneReader};
+use zone_db::{Found, Zone, ZoneSet};
 
 /// Tries so many sets with so many look-ups each: how often each case came, or the first difference.
 pub fn tried(
@@ -29,7 +23,9 @@ pub fn tried(
         let listed = made(alloc, random)?;
         let zones = built(alloc, random, listed.as_slice())?;
         for _ in 0..looks {
-            look(alloc, random, listed.as_slice(), &zones, &mut tally)?;
+            if let Some(difference) = look(alloc, random, listed.as_slice(), &zones, &mut tally)? {
+                return Ok(difference);
+            }
         }
     }
     tally.told(alloc)
@@ -69,7 +65,7 @@ fn built(alloc: Global, random: &mut Random, listed: &[Listed]) -> Result<ZoneSe
 
 // A zone that does not build is left out, and then look-ups differ.
 fn add(alloc: Global, zones: &mut ZoneSet, text: &str) -> Result<(), MemoryFault> {
-    let Ok(records) = read(alloc, text) else {
+    let Ok(records) = read_records(alloc, Name::root(), text.as_bytes(), text.len()) else {
         return Ok(());
     };
     let Ok(zone) = Zone::build(alloc, records) else {
@@ -81,31 +77,14 @@ fn add(alloc: Global, zones: &mut ZoneSet, text: &str) -> Result<(), MemoryFault
     }
 }
 
-fn read(alloc: Global, text: &str) -> Result<Records, TextFault>
-    ensures plain { IfOk result (λ records. (one : spec.Record) → Contains records one → IsPlain one) }
-{
-    let mut reader = ZoneReader::new(alloc, Name::root());
-    if reader.feed(text.as_bytes()).is_err() {
-        return records_of(reader);
-    }
-    records_of(reader)
-}
-
-#[tactic(auto, using(crate::proofs::PlainLemmas::plain))]
-fn records_of(reader: ZoneReader) -> Result<Records, TextFault>
-    ensures plain { IfOk result (λ records. (one : spec.Record) → Contains records one → IsPlain one) }
-{
-    reader.end()
-}
-
-// Looks up a name in any case, both ways.
+// Looks up a name in any case, both ways, and tells the difference.
 fn look(
     alloc: Global,
     random: &mut Random,
     listed: &[Listed],
     zones: &ZoneSet,
     tally: &mut Tally,
-) -> Result<(), MemoryFault> {
+) -> Result<Option<String>, MemoryFault> {
     let name = asked(alloc, random, listed)?;
     let kind = asked_kind(random);
     let spelt = written(alloc, random, name.as_str())?;
@@ -113,14 +92,23 @@ fn look(
     let Some(asked) = name_of(alloc, spelt.as_str())? else {
         return Err(MemoryFault);
     };
-    let found = told(alloc, zones.lookup(&asked, kind))?;
-    if found.as_str() != expected.as_str() {
-        let difference = format!(in alloc; "{spelt} {kind}\nfound {found}\nsearched {expected}")?;
-        tally.differs(difference);
-        return Ok(());
+    let found = zones.lookup(&asked, kind);
+    tally.count(&found);
+    let found = found_text(alloc, found)?;
+    if found.as_str() == expected.as_str() {
+        return Ok(None);
     }
-    tally.count(expected.as_str());
-    Ok(())
+    let difference = format!(in alloc; "{spelt} {kind}\nfound {found}searched {expected}")?;
+    Ok(Some(difference))
+}
+
+// What the zones find: the case on a line, then each record.
+fn found_text(alloc: Global, found: Found<'_>) -> Result<String, MemoryFault> {
+    let mut told = Bytes::new(alloc);
+    told.push_slice(case_of(&found).as_bytes())?;
+    told.push_slice(b"\n")?;
+    push_records(&mut told, records_found(found))?;
+    text_of(alloc, told.as_slice())
 }
 
 // A name at random, or one at, above or below an owner.

@@ -7,7 +7,6 @@
 #![tactic(auto)]
 
 mod found;
-mod records;
 mod script;
 mod texts;
 
