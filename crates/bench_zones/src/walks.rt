@@ -28,17 +28,23 @@ pub fn counted(
     };
     for _ in 0..times {
         for line in text.lines() {
-            match report_of(alloc, set, line)? {
-                Some(Report::Ends(ends)) => put_ends(&mut sum, ends.as_slice()),
-                Some(Report::Loop(_)) => sum.loops = sum.loops.saturating_add(1),
-                None => return Ok(format!(in alloc; "no number: {line}")?),
-            }
+            let Some(report) = report_of(alloc, set, line)? else {
+                return Ok(format!(in alloc; "no number: {line}")?);
+            };
+            put_report(&mut sum, &report);
         }
     }
     Ok(format!(in alloc;
         "ends {}, longest {}, loops {}",
         sum.ends, sum.longest, sum.loops
     )?)
+}
+
+fn put_report(sum: &mut Sum, report: &Report) {
+    match report {
+        Report::Ends(ends) => put_ends(sum, ends.as_slice()),
+        Report::Loop(_) => sum.loops = sum.loops.saturating_add(1),
+    }
 }
 
 fn put_ends(sum: &mut Sum, ends: &[End]) {
