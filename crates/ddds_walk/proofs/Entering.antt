@@ -10,7 +10,7 @@ use Rattle.std.proofs.lemmas.Str.Ascii.{lowercase-lowercase}
 use Rattle.enum_base.specs.Folding.{folded}
 use Rattle.enum_base.specs.Outside.{WhereTold}
 use Rattle.dns_name.specs.Name.{folded_labels}
-use Rattle.naptr_data.specs.Sources.{RuleSourceState as SourceState, AreDistinct}
+use Rattle.naptr_data.specs.Sources.{RuleSourceState, AreDistinct}
 use Rattle.naptr_data.specs.Zones.{Labels, Zone, IsOffer}
 use Rattle.naptr_data.specs.declared.offer.Offer.{Offer}
 use Rattle.naptr_data.specs.declared.offer.Offer.TheVariants as offer
@@ -69,7 +69,7 @@ keys_fold [] r d e = cc
 keys_fold (key ∷ keys) zero d e = let f : d ≡ folded_labels key = cc in same_folds d key f
 keys_fold (key ∷ keys) (suc r) d e = keys_fold keys r d e
 
-module _ (c : Client) (limit : ℕ) (t : SourceState) (w w' : Walker) where
+module _ (c : Client) (limit : ℕ) (t : RuleSourceState) (w w' : Walker) where
   -- a turn that asks nobody
   pub turned_moved : (turn : Turn) → IsSound limit w → HasMoved limit w w' turn → HasTurned c limit t t w w' (Ok turn)
   turned_moved turn sound m = record {
@@ -93,7 +93,7 @@ module _ (c : Client) (limit : ℕ) (t : SourceState) (w w' : Walker) where
       some zones keys s = subst (λ v. AreSomeNeeded (graph_of c zones) keys v) (sym m.asked) (record { once = sound.once; only = s.needed })
 
 -- counts that stand for one result stand for each that is refused in its place
-memory_counts : {A B : Type 0} (limit : ℕ) (t u : SourceState) (asked asked' : List Labels) (result : Result A WalkFault)
+memory_counts : {A B : Type 0} (limit : ℕ) (t u : RuleSourceState) (asked asked' : List Labels) (result : Result A WalkFault)
     → Counts limit t u asked asked' result → Counts {A = B} limit t u asked asked' (Err Memory)
 memory_counts limit t u asked asked' result h = record {
   once = h.once;
@@ -103,7 +103,7 @@ memory_counts limit t u asked asked' result h = record {
   met = λ n e. cc;
 }
 
-refused_counts : {A B : Type 0} (limit : ℕ) (t u : SourceState) (asked asked' : List Labels) (e : WalkFault)
+refused_counts : {A B : Type 0} (limit : ℕ) (t u : RuleSourceState) (asked asked' : List Labels) (e : WalkFault)
     → Counts {A = A} limit t u asked asked' (Err e) → Counts {A = B} limit t u asked asked' (Err e)
 refused_counts {A} {B} limit t u asked asked' (Limit n) h =
     record { once = h.once; few = h.few; asks = h.asks; kept = h.kept; met = λ m e. h.met m (limits m e) }
@@ -113,7 +113,7 @@ refused_counts {A} {B} limit t u asked asked' (Limit n) h =
 refused_counts limit t u asked asked' Trouble h = record { once = h.once; few = h.few; asks = h.asks; kept = λ x k f i. absurd x; met = λ n e. cc }
 refused_counts limit t u asked asked' Memory h = record { once = h.once; few = h.few; asks = h.asks; kept = λ x k f i. absurd x; met = λ n e. cc }
 
-module _ (c : Client) (limit : ℕ) (t u : SourceState) (w w' : Walker) (asked : List Labels) (next : Labels)
+module _ (c : Client) (limit : ℕ) (t u : RuleSourceState) (w w' : Walker) (asked : List Labels) (next : Labels)
     (sound : IsSound limit w) (here : slice_get w.top.edges w.top.rank ≡ Some (Step next))
     (new : ¬ Contains w.asked next) (away : ¬ (Contains (domains_of w.below) (Some next) ⊎ (w.top.domain ≡ Some next))) where
   -- what was asked is needed, with the domain of the edge or without
