@@ -69,7 +69,7 @@ fn report_of(alloc: Global, set: &ZoneSet, line: &str) -> Result<Option<Report>,
         &EnumApp,
         Wanted::Any,
         &number.aus(),
-        &key,
+        &[key],
         &mut source,
         limit,
     );
