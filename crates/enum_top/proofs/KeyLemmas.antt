@@ -11,8 +11,7 @@ use Rattle.request_words.specs.Words.{text_at}
 use Rattle.request_words.specs.declared.request.AppName.{AppName}
 use Rattle.request_words.specs.declared.request.AppName.TheVariants.{Enum, Snaptr, Unaptr}
 use Rattle.snaptr_app.specs.Domain.{key_of}
-use Rattle.enum_top.specs.Applications.{Asks, Inquiry, Keys, Numbered, after, apex_of, apexes_of, as_apexes, domain_key, every, under}
-use Rattle.enum_top.specs.declared.cause.Cause.{Cause}
+use Rattle.enum_top.specs.Applications.{Asks, Inquiry, Keys, after, apex_of, apexes_of, as_apexes, domain_key, every, under}
 
 -- values before others
 abbrev pub before : {A F : Type 0} → List A → Result (List A) F → Result (List A) F

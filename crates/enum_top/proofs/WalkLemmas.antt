@@ -1,5 +1,5 @@
 -- A walk over told zones ends by itself.
-use Rattle.std.proofs.Common.{◌≡◌, ℕ, ◌+◌, ◌<◌, ◌≤◌, List, length, arith}
+use Rattle.std.proofs.Common.{◌≡◌, ℕ, ◌+◌, ◌≤◌, List, length, arith}
 use Rattle.ddds_walk.specs.Asking.{Holds, NeedsMore}
 use Rattle.ddds_walk.specs.Graph.{Graph}
 use Rattle.ddds_walk.specs.Report.{AreSomeNeeded}
