@@ -26,9 +26,10 @@ pub fn counted(
         longest: 0,
         loops: 0,
     };
+    let limit = set.rules_and_aliases().saturating_add(1);
     for _ in 0..times {
         for line in text.lines() {
-            let Some(report) = report_of(alloc, set, line)? else {
+            let Some(report) = report_of(alloc, set, line, limit)? else {
                 return Ok(format!(in alloc; "no number: {line}")?);
             };
             put_report(&mut sum, &report);
@@ -54,8 +55,13 @@ fn put_ends(sum: &mut Sum, ends: &[End]) {
     }
 }
 
-// The report of a number.
-fn report_of(alloc: Global, set: &ZoneSet, line: &str) -> Result<Option<Report>, MemoryFault> {
+// The report of a number; at most so many domains are asked for.
+fn report_of(
+    alloc: Global,
+    set: &ZoneSet,
+    line: &str,
+    limit: u32,
+) -> Result<Option<Report>, MemoryFault> {
     let Ok(number) = Number::parse(line.as_bytes()) else {
         return Ok(None);
     };
@@ -63,7 +69,6 @@ fn report_of(alloc: Global, set: &ZoneSet, line: &str) -> Result<Option<Report>,
         return Ok(None);
     };
     let mut source = ZoneSource::new(set);
-    let limit = set.rules_and_aliases().saturating_add(1);
     let report = walk(
         alloc,
         &EnumApp,
@@ -71,7 +76,7 @@ fn report_of(alloc: Global, set: &ZoneSet, line: &str) -> Result<Option<Report>,
         &number.aus(),
         &[key],
         &mut source,
-        limit,
+        limit.max(1),
     );
     match report {
         Ok(report) => Ok(Some(report)),
