@@ -4,7 +4,7 @@ use Rattle.std.specs.Prelude.{Contains, Some, slice_get, Result, Ok, Err, IsErrA
 use Rattle.std.specs.List.{sum_by}
 use Rattle.std.proofs.lemmas.List.{length-append, map-append}
 use Rattle.std.proofs.lemmas.List.Sums.{sum_by-append}
-use Rattle.std.proofs.lemmas.List.Elements.{Contains-push_cases}
+use Rattle.std.proofs.lemmas.List.Elements.{Contains-append_left, Contains-push, Contains-push_cases}
 use Rattle.std.proofs.lemmas.Option.{slice_get_within}
 use Rattle.std.proofs.lemmas.Str.Ascii.{lowercase-lowercase}
 use Rattle.enum_base.specs.Folding.{folded}
@@ -115,7 +115,11 @@ refused_counts limit t u asked asked' Memory h = record { once = h.once; few = h
 
 module _ (c : Client) (limit : ℕ) (t u : RuleSourceState) (w w' : Walker) (asked : List Labels) (next : Labels)
     (sound : IsSound limit w) (here : slice_get w.top.edges w.top.rank ≡ Some (Step next))
-    (new : ¬ Contains w.asked next) (away : ¬ (Contains (domains_of w.below) (Some next) ⊎ (w.top.domain ≡ Some next))) where
+    (new : ¬ Contains w.asked next) where
+  -- a domain that was not asked for is not on the way
+  away : ¬ (Contains (domains_of w.below) (Some next) ⊎ (w.top.domain ≡ Some next))
+  away on = new (sound.met next on)
+
   -- what was asked is needed, with the domain of the edge or without
   some_needed : (w.asked ≡ asked) ⊎ (asked ≡ w.asked ++ next ∷ []) → w'.asked ≡ asked → AreDistinct asked
       → (zones : List Zone) (keys : List Labels) → IsAt c zones keys w → AreSomeNeeded (graph_of c zones) keys w'.asked
@@ -229,6 +233,19 @@ module _ (c : Client) (limit : ℕ) (t u : RuleSourceState) (w w' : Walker) (ask
       is : opened ≡ w'
       is i = record { asked = (sym opens.asked) i; ends = w'.ends; below = (sym opens.below) i; top = (sym opens.top) i }
 
+      domains : domains_of (w.below ++ w.top ∷ []) ≡ domains_of w.below ++ w.top.domain ∷ []
+      domains = map-append (λ (x : Frame). x.domain) w.below (w.top ∷ [])
+
+      met_before : (d : Labels) → Contains (domains_of w.below) (Some d) ⊎ (w.top.domain ≡ Some d) → Contains (w.asked ++ next ∷ []) d
+      met_before d on = Contains-append_left w.asked (next ∷ []) d (sound.met d on)
+
+      met_grown : (d : Labels) → Contains (domains_of (w.below ++ w.top ∷ [])) (Some d) ⊎ (Some next ≡ Some d)
+          → Contains (w.asked ++ next ∷ []) d
+      met_grown d (inl h) =
+          met_before d (Contains-push_cases (domains_of w.below) w.top.domain (Some d) (subst (λ v. Contains v (Some d)) domains h))
+      met_grown d (inr e) =
+          let f : next ≡ d = cc in subst (λ v. Contains (w.asked ++ next ∷ []) v) f (Contains-push w.asked next)
+
       sound_opened : IsSound limit opened
       sound_opened = record {
         once = a.counts.once;
@@ -237,6 +254,7 @@ module _ (c : Client) (limit : ℕ) (t u : RuleSourceState) (w w' : Walker) (ask
         top = (omega arith, record { few = opens.few; keys = λ e. cc; folded = edges_fold c o opens.edges opens.told; root = λ e. cc });
         way = subst (λ v. IsWay (v ++ Some next ∷ [])) (sym (map-append (λ (x : Frame). x.domain) w.below (w.top ∷ [])))
             (way_push (domains_of w.below ++ w.top.domain ∷ []) next sound.way);
+        met = λ d on. subst (λ v. Contains v d) (sym grew) (met_grown d on);
       }
 
       sound_there : IsSound limit w'

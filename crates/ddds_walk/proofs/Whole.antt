@@ -1,5 +1,5 @@
 -- A whole walk, from its turns; and what its one record says.
-use Rattle.std.proofs.Common.{◌≡◌, ℕ, zero, suc, ◌+◌, ◌≤◌, List, [], ◌∷◌, length, map, refl, sym, ◌∙◌, ap, subst, inl, inr, arith}
+use Rattle.std.proofs.Common.{◌≡◌, ℕ, zero, suc, ◌+◌, ◌≤◌, ◌⊎◌, List, [], ◌∷◌, length, map, refl, sym, ◌∙◌, ap, subst, inl, inr, arith}
 use Rattle.std.specs.Prelude.{Contains, slice_get, Option, Some, None, Result, Ok, Err, OnOk, IsErrAnd}
 use Rattle.std.proofs.lemmas.List.{length-map}
 use Rattle.enum_base.specs.Causes.{Rose}
@@ -26,6 +26,7 @@ use Rattle.ddds_walk.specs.declared.report.Report.TheVariants as report
 use Rattle.ddds_walk.specs.declared.walker.Turn.{Turn}
 use Rattle.ddds_walk.specs.declared.walker.Turn.TheVariants.{On, Done, Back}
 use Rattle.ddds_walk.specs.declared.walker.Walker.{Walker}
+use Rattle.ddds_walk.proofs.Elements.{has_none}
 use Rattle.ddds_walk.proofs.Entering.{keys_fold}
 use Rattle.ddds_walk.proofs.Kept.{kept_start, kept_enough, kept_missing, past_limit}
 use Rattle.ddds_walk.proofs.StateMore.{state_start}
@@ -51,12 +52,17 @@ going_start offers outputs c keys limit t few = record {
       },
     );
     way = tt;
+    met = λ d on. absurd (nobody d on);
   };
   asks = refl;
   kept = kept_start t.room t.kept t.fetched;
   told = λ zones is. state_start offers outputs c zones (map folded_labels keys);
 }
   where
+    nobody : (d : Labels) → Contains [] (Some d) ⊎ (None ≡ Some d) → ⊥
+    nobody d (inl h) = has_none (Some d) h
+    nobody d (inr e) = cc
+
     edges_few : length (map (λ key. Step key) (map folded_labels keys)) ≤ 8
     edges_few = omega (arith, few, length-map (map folded_labels keys) (λ (key : Labels). Step key), length-map keys folded_labels)
 

@@ -55,6 +55,10 @@ IsWay [] = ⊥
 IsWay (None ∷ ds) = AllByRecursion IsSome ds
 IsWay (Some d ∷ ds) = ⊥
 
+-- a domain on the way: that of the topmost frame or of one below
+abbrev pub IsOnTheWay : Walker → Labels → Type 0
+IsOnTheWay w d = Contains (domains_of w.below) (Some d) ⊎ (w.top.domain ≡ Some d)
+
 -- what holds of a walk over any source
 pub record IsSound (limit : ℕ) (w : Walker) : Type 0 where
   pub once : AreDistinct w.asked
@@ -62,6 +66,7 @@ pub record IsSound (limit : ℕ) (w : Walker) : Type 0 where
   pub below : AllByRecursion IsPast w.below
   pub top : (w.top.rank ≤ length w.top.edges) × AreSound w.top.domain w.top.edges
   pub way : IsWay (domains_of w.below ++ w.top.domain ∷ [])
+  pub met : (d : Labels) → IsOnTheWay w d → Contains w.asked d
 
 -- how much is left to try at a frame, and in a walk
 abbrev pub left_at : Frame → ℕ
@@ -144,10 +149,6 @@ derivation_of w = derivation_in (path_of w.below ++ w.top.rank ∷ [])
 -- the place of its key is a number of eight bits
 abbrev pub IsPlaced : Walker → Type 0
 IsPlaced w = (derivation_of w).place < 256
-
--- a domain on the way: that of the topmost frame or of one below
-abbrev pub IsOnTheWay : Walker → Labels → Type 0
-IsOnTheWay w d = Contains (domains_of w.below) (Some d) ⊎ (w.top.domain ≡ Some d)
 
 -- the edge that is followed next leads to this domain
 abbrev pub IsAtStep : Walker → Labels → Type 0
