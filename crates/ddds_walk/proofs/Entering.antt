@@ -4,13 +4,13 @@ use Rattle.std.specs.Prelude.{Contains, Some, slice_get, Result, Ok, Err, IsErrA
 use Rattle.std.specs.List.{sum_by}
 use Rattle.std.proofs.lemmas.List.{length-append, map-append}
 use Rattle.std.proofs.lemmas.List.Sums.{sum_by-append}
-use Rattle.std.proofs.lemmas.List.Elements.{Contains-push_cases}
+use Rattle.std.proofs.lemmas.List.Elements.{Contains-append_left, Contains-push, Contains-push_cases}
 use Rattle.std.proofs.lemmas.Option.{slice_get_within}
 use Rattle.std.proofs.lemmas.Str.Ascii.{lowercase-lowercase}
 use Rattle.enum_base.specs.Folding.{folded}
 use Rattle.enum_base.specs.Outside.{WhereTold}
 use Rattle.dns_name.specs.Name.{folded_labels}
-use Rattle.naptr_data.specs.Sources.{SourceState, AreDistinct}
+use Rattle.naptr_data.specs.Sources.{RuleSourceState, AreDistinct}
 use Rattle.naptr_data.specs.Zones.{Labels, Zone, IsOffer}
 use Rattle.naptr_data.specs.declared.offer.Offer.{Offer}
 use Rattle.naptr_data.specs.declared.offer.Offer.TheVariants as offer
@@ -69,7 +69,7 @@ keys_fold [] r d e = cc
 keys_fold (key ∷ keys) zero d e = let f : d ≡ folded_labels key = cc in same_folds d key f
 keys_fold (key ∷ keys) (suc r) d e = keys_fold keys r d e
 
-module _ (c : Client) (limit : ℕ) (t : SourceState) (w w' : Walker) where
+module _ (c : Client) (limit : ℕ) (t : RuleSourceState) (w w' : Walker) where
   -- a turn that asks nobody
   pub turned_moved : (turn : Turn) → IsSound limit w → HasMoved limit w w' turn → HasTurned c limit t t w w' (Ok turn)
   turned_moved turn sound m = record {
@@ -93,7 +93,7 @@ module _ (c : Client) (limit : ℕ) (t : SourceState) (w w' : Walker) where
       some zones keys s = subst (λ v. AreSomeNeeded (graph_of c zones) keys v) (sym m.asked) (record { once = sound.once; only = s.needed })
 
 -- counts that stand for one result stand for each that is refused in its place
-memory_counts : {A B : Type 0} (limit : ℕ) (t u : SourceState) (asked asked' : List Labels) (result : Result A WalkFault)
+memory_counts : {A B : Type 0} (limit : ℕ) (t u : RuleSourceState) (asked asked' : List Labels) (result : Result A WalkFault)
     → Counts limit t u asked asked' result → Counts {A = B} limit t u asked asked' (Err Memory)
 memory_counts limit t u asked asked' result h = record {
   once = h.once;
@@ -103,7 +103,7 @@ memory_counts limit t u asked asked' result h = record {
   met = λ n e. cc;
 }
 
-refused_counts : {A B : Type 0} (limit : ℕ) (t u : SourceState) (asked asked' : List Labels) (e : WalkFault)
+refused_counts : {A B : Type 0} (limit : ℕ) (t u : RuleSourceState) (asked asked' : List Labels) (e : WalkFault)
     → Counts {A = A} limit t u asked asked' (Err e) → Counts {A = B} limit t u asked asked' (Err e)
 refused_counts {A} {B} limit t u asked asked' (Limit n) h =
     record { once = h.once; few = h.few; asks = h.asks; kept = h.kept; met = λ m e. h.met m (limits m e) }
@@ -113,9 +113,13 @@ refused_counts {A} {B} limit t u asked asked' (Limit n) h =
 refused_counts limit t u asked asked' Trouble h = record { once = h.once; few = h.few; asks = h.asks; kept = λ x k f i. absurd x; met = λ n e. cc }
 refused_counts limit t u asked asked' Memory h = record { once = h.once; few = h.few; asks = h.asks; kept = λ x k f i. absurd x; met = λ n e. cc }
 
-module _ (c : Client) (limit : ℕ) (t u : SourceState) (w w' : Walker) (asked : List Labels) (next : Labels)
+module _ (c : Client) (limit : ℕ) (t u : RuleSourceState) (w w' : Walker) (asked : List Labels) (next : Labels)
     (sound : IsSound limit w) (here : slice_get w.top.edges w.top.rank ≡ Some (Step next))
-    (new : ¬ Contains w.asked next) (away : ¬ (Contains (domains_of w.below) (Some next) ⊎ (w.top.domain ≡ Some next))) where
+    (new : ¬ Contains w.asked next) where
+  -- a domain that was not asked for is not on the way
+  away : ¬ (Contains (domains_of w.below) (Some next) ⊎ (w.top.domain ≡ Some next))
+  away on = new (sound.met next on)
+
   -- what was asked is needed, with the domain of the edge or without
   some_needed : (w.asked ≡ asked) ⊎ (asked ≡ w.asked ++ next ∷ []) → w'.asked ≡ asked → AreDistinct asked
       → (zones : List Zone) (keys : List Labels) → IsAt c zones keys w → AreSomeNeeded (graph_of c zones) keys w'.asked
@@ -229,6 +233,19 @@ module _ (c : Client) (limit : ℕ) (t u : SourceState) (w w' : Walker) (asked :
       is : opened ≡ w'
       is i = record { asked = (sym opens.asked) i; ends = w'.ends; below = (sym opens.below) i; top = (sym opens.top) i }
 
+      domains : domains_of (w.below ++ w.top ∷ []) ≡ domains_of w.below ++ w.top.domain ∷ []
+      domains = map-append (λ (x : Frame). x.domain) w.below (w.top ∷ [])
+
+      met_before : (d : Labels) → Contains (domains_of w.below) (Some d) ⊎ (w.top.domain ≡ Some d) → Contains (w.asked ++ next ∷ []) d
+      met_before d on = Contains-append_left w.asked (next ∷ []) d (sound.met d on)
+
+      met_grown : (d : Labels) → Contains (domains_of (w.below ++ w.top ∷ [])) (Some d) ⊎ (Some next ≡ Some d)
+          → Contains (w.asked ++ next ∷ []) d
+      met_grown d (inl h) =
+          met_before d (Contains-push_cases (domains_of w.below) w.top.domain (Some d) (subst (λ v. Contains v (Some d)) domains h))
+      met_grown d (inr e) =
+          let f : next ≡ d = cc in subst (λ v. Contains (w.asked ++ next ∷ []) v) f (Contains-push w.asked next)
+
       sound_opened : IsSound limit opened
       sound_opened = record {
         once = a.counts.once;
@@ -237,6 +254,7 @@ module _ (c : Client) (limit : ℕ) (t u : SourceState) (w w' : Walker) (asked :
         top = (omega arith, record { few = opens.few; keys = λ e. cc; folded = edges_fold c o opens.edges opens.told; root = λ e. cc });
         way = subst (λ v. IsWay (v ++ Some next ∷ [])) (sym (map-append (λ (x : Frame). x.domain) w.below (w.top ∷ [])))
             (way_push (domains_of w.below ++ w.top.domain ∷ []) next sound.way);
+        met = λ d on. subst (λ v. Contains v d) (sym grew) (met_grown d on);
       }
 
       sound_there : IsSound limit w'

@@ -4,6 +4,7 @@ use Rattle.std.proofs.Common.{ap, subst, inl, inr, arith, suc, length-append}
 use Rattle.std.specs.Prelude.{Contains, Option, Some, None, IsSome, slice_get, get_or}
 use Rattle.std.specs.List.{AllByRecursion, sum_by}
 use Rattle.std.proofs.lemmas.List.{map-append, length-map}
+use Rattle.std.proofs.lemmas.List.Elements.{Contains-append_left, Contains-push}
 use Rattle.std.proofs.lemmas.List.Sums.{sum_by-append}
 use Rattle.std.proofs.lemmas.Option.{slice_get_within, slice_get_cases}
 use Rattle.naptr_data.specs.Zones.{Labels}
@@ -124,7 +125,7 @@ module _ (limit : ℕ) (w : Walker) (sound : IsSound limit w) where
   pub sound_on : (e : Edge) (ends : List End) → slice_get w.top.edges w.top.rank ≡ Some e → IsSound limit (onward w ends)
   sound_on e ends h =
       let l = slice_get_within w.top.edges w.top.rank e h in
-      record { once = sound.once; few = sound.few; below = sound.below; top = (omega (arith, l), sound.top.1); way = sound.way }
+      record { once = sound.once; few = sound.few; below = sound.below; top = (omega (arith, l), sound.top.1); way = sound.way; met = sound.met }
 
   pub falls_on : (e : Edge) (ends : List End) → slice_get w.top.edges w.top.rank ≡ Some e
       → left_in limit (onward w ends) < left_in limit w
@@ -166,11 +167,21 @@ module _ (limit : ℕ) (w : Walker) (sound : IsSound limit w) where
       top = (omega (arith, past.0), past.1);
       way =
           way_front lower f w.top.domain (subst (λ v. IsWay (domains_of v ++ w.top.domain ∷ [])) is sound.way);
+      met = λ d on. sound.met d (inl (subst (λ v. Contains v (Some d)) (sym domains) (among d on)));
     };
     falls = λ _. falls;
     says = λ c zones keys s. state_leave c zones keys w.asked w.ends w.below w.top s lower f is none;
   }
     where
+      domains : domains_of w.below ≡ domains_of lower ++ f.domain ∷ []
+      domains = ap domains_of is ∙ map-append (λ (x : Frame). x.domain) lower (f ∷ [])
+
+      among : (d : Labels) → Contains (domains_of lower) (Some d) ⊎ (f.domain ≡ Some d)
+          → Contains (domains_of lower ++ f.domain ∷ []) (Some d)
+      among d (inl h) = Contains-append_left (domains_of lower) (f.domain ∷ []) (Some d) h
+      among d (inr e) =
+          subst (λ v. Contains (domains_of lower ++ f.domain ∷ []) v) e (Contains-push (domains_of lower) f.domain)
+
       all : AllByRecursion IsPast (lower ++ f ∷ [])
       all = subst (λ v. AllByRecursion IsPast v) is sound.below
 

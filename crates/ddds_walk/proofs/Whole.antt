@@ -1,12 +1,12 @@
 -- A whole walk, from its turns; and what its one record says.
-use Rattle.std.proofs.Common.{◌≡◌, ℕ, zero, suc, ◌+◌, ◌≤◌, List, [], ◌∷◌, length, map, refl, sym, ◌∙◌, ap, subst, inl, inr, arith}
+use Rattle.std.proofs.Common.{◌≡◌, ℕ, zero, suc, ◌+◌, ◌≤◌, ◌⊎◌, List, [], ◌∷◌, length, map, refl, sym, ◌∙◌, ap, subst, inl, inr, arith}
 use Rattle.std.specs.Prelude.{Contains, slice_get, Option, Some, None, Result, Ok, Err, OnOk, IsErrAnd}
 use Rattle.std.proofs.lemmas.List.{length-map}
 use Rattle.enum_base.specs.Causes.{Rose}
 use Rattle.enum_base.specs.Outside.{WhereTold}
 use Rattle.dns_name.specs.Name.{folded_labels}
 use Rattle.naptr_data.specs.Laws.{ZonesMakeOneOffer}
-use Rattle.naptr_data.specs.Sources.{SourceState}
+use Rattle.naptr_data.specs.Sources.{RuleSourceState}
 use Rattle.naptr_data.specs.Zones.{Labels, Zone, rules_and_aliases}
 use Rattle.naptr_rule.specs.declared.rule.Naptr.{Naptr}
 use Rattle.subst_expr.specs.Laws.{OneOutput}
@@ -26,11 +26,12 @@ use Rattle.ddds_walk.specs.declared.report.Report.TheVariants as report
 use Rattle.ddds_walk.specs.declared.walker.Turn.{Turn}
 use Rattle.ddds_walk.specs.declared.walker.Turn.TheVariants.{On, Done, Back}
 use Rattle.ddds_walk.specs.declared.walker.Walker.{Walker}
+use Rattle.ddds_walk.proofs.Elements.{has_none}
 use Rattle.ddds_walk.proofs.Entering.{keys_fold}
 use Rattle.ddds_walk.proofs.Kept.{kept_start, kept_enough, kept_missing, past_limit}
 use Rattle.ddds_walk.proofs.StateMore.{state_start}
 
-pub going_start : ZonesMakeOneOffer → OneOutput → (c : Client) (keys : List Labels) (limit : ℕ) (t : SourceState)
+pub going_start : ZonesMakeOneOffer → OneOutput → (c : Client) (keys : List Labels) (limit : ℕ) (t : RuleSourceState)
     → length keys ≤ 8 → IsGoing c (map folded_labels keys) limit t t (at_root (map folded_labels keys))
 going_start offers outputs c keys limit t few = record {
   zones = refl;
@@ -51,12 +52,17 @@ going_start offers outputs c keys limit t few = record {
       },
     );
     way = tt;
+    met = λ d on. absurd (nobody d on);
   };
   asks = refl;
   kept = kept_start t.room t.kept t.fetched;
   told = λ zones is. state_start offers outputs c zones (map folded_labels keys);
 }
   where
+    nobody : (d : Labels) → Contains [] (Some d) ⊎ (None ≡ Some d) → ⊥
+    nobody d (inl h) = has_none (Some d) h
+    nobody d (inr e) = cc
+
     edges_few : length (map (λ key. Step key) (map folded_labels keys)) ≤ 8
     edges_few = omega (arith, few, length-map (map folded_labels keys) (λ (key : Labels). Step key), length-map keys folded_labels)
 
@@ -69,7 +75,7 @@ going_start offers outputs c keys limit t few = record {
 rose_from : (a b c : ℕ) → a ≤ b → Rose b c → Rose a c
 rose_from a b c l h = grind arith
 
-module _ (c : Client) (keys : List Labels) (limit : ℕ) (t u v : SourceState) (w w' : Walker) (g : IsGoing c keys limit t u w) where
+module _ (c : Client) (keys : List Labels) (limit : ℕ) (t u v : RuleSourceState) (w w' : Walker) (g : IsGoing c keys limit t u w) where
   kept_on : (result : Result Turn WalkFault) → HasTurned c limit u v w w' result → IsWhole result
       → HasKept t.room t.kept t.fetched w'.asked v.kept v.fetched
   kept_on result h k = subst (λ r. HasKept r t.kept t.fetched w'.asked v.kept v.fetched) g.room
@@ -144,7 +150,7 @@ module _ (c : Client) (keys : List Labels) (limit : ℕ) (t u v : SourceState) (
       whole Trouble x = x
       whole Memory x = x
 
-module _ (c : Client) (keys : List Labels) (limit : ℕ) (t u v : SourceState) (w w' : Walker) (g : IsGoing c keys limit t u w) where
+module _ (c : Client) (keys : List Labels) (limit : ℕ) (t u v : RuleSourceState) (w w' : Walker) (g : IsGoing c keys limit t u w) where
   -- the same of an answer that is known by what it refuses
   pub err_by : (r : Result Report WalkFault) (e : WalkFault) → IsErrAnd r (λ x. x ≡ e) → HasTurned c limit u v w w' (Err e)
       → HasWalked c keys limit t v r
@@ -152,12 +158,12 @@ module _ (c : Client) (keys : List Labels) (limit : ℕ) (t u v : SourceState) (
   err_by (Err x) e h turned = subst (λ y. HasWalked c keys limit t v (Err y)) (sym h) (walked_err c keys limit t u v w w' g e turned)
 
 -- the same, of a walk and a turn that are known by equations
-pub going_at : ZonesMakeOneOffer → OneOutput → (c : Client) (keys : List Labels) (limit : ℕ) (t : SourceState) (w : Walker)
+pub going_at : ZonesMakeOneOffer → OneOutput → (c : Client) (keys : List Labels) (limit : ℕ) (t : RuleSourceState) (w : Walker)
     → length keys ≤ 8 → w ≡ at_root (map folded_labels keys) → IsGoing c (map folded_labels keys) limit t t w
 going_at offers outputs c keys limit t w few e =
     subst (λ v. IsGoing c (map folded_labels keys) limit t t v) (sym e) (going_start offers outputs c keys limit t few)
 
-module _ (c : Client) (keys : List Labels) (limit : ℕ) (t u v : SourceState) (w w' : Walker) (g : IsGoing c keys limit t u w)
+module _ (c : Client) (keys : List Labels) (limit : ℕ) (t u v : RuleSourceState) (w w' : Walker) (g : IsGoing c keys limit t u w)
     (turn : Turn) (h : HasTurned c limit u v w w' (Ok turn)) where
   pub going_by : turn ≡ On → IsGoing c keys limit t v w'
   going_by e = going_on c keys limit t u v w w' g (subst (λ x. HasTurned c limit u v w w' (Ok x)) e h)
@@ -169,7 +175,7 @@ module _ (c : Client) (keys : List Labels) (limit : ℕ) (t u v : SourceState) (
   back_by path e = walked_back c keys limit t u v w w' g path (subst (λ x. HasTurned c limit u v w w' (Ok x)) e h)
 
 -- a walk for which memory was wanting before it began
-pub walked_nothing : (c : Client) (keys : List Labels) (limit : ℕ) (t : SourceState) → HasWalked c keys limit t t (Err Memory)
+pub walked_nothing : (c : Client) (keys : List Labels) (limit : ℕ) (t : RuleSourceState) → HasWalked c keys limit t t (Err Memory)
 walked_nothing c keys limit t = record {
   asked = [];
   serves = record { zones = refl; room = refl; lent = refl; later = omega arith; trouble = λ e. cc };
@@ -184,7 +190,7 @@ walked_nothing c keys limit t = record {
     none : (d : Labels) → Contains [] d → ⊥
     none d h = omega (arith, h.1)
 
-pub nothing_by : (c : Client) (keys : List Labels) (limit : ℕ) (t : SourceState) (r : Result Report WalkFault) → IsErrAnd r (λ x. x ≡ Memory)
+pub nothing_by : (c : Client) (keys : List Labels) (limit : ℕ) (t : RuleSourceState) (r : Result Report WalkFault) → IsErrAnd r (λ x. x ≡ Memory)
     → HasWalked c keys limit t t r
 nothing_by c keys limit t (Ok report) h = absurd h
 nothing_by c keys limit t (Err x) h = subst (λ v. HasWalked c keys limit t t (Err v)) (sym h) (walked_nothing c keys limit t)
@@ -198,7 +204,7 @@ ok_of (Ok x) q = q
 ok_of (Err e) q = tt
 
 -- what the public clauses of a walk say, each from its one record
-module _ (c : Client) (keys : List Labels) (limit : ℕ) (t u : SourceState) (result : Result Report WalkFault)
+module _ (c : Client) (keys : List Labels) (limit : ℕ) (t u : RuleSourceState) (result : Result Report WalkFault)
     (h : HasWalked c keys limit t u result) where
   pub says_bound : ((c : Client) (zones : List Zone) (keys names ds : List Labels) → Holds names keys
       → AreSomeNeeded (graph_of c zones) keys ds → length ds ≤ rules_and_aliases zones + length names)

@@ -18,7 +18,8 @@ use Rattle.ddds_walk.specs.declared.report.Report.{Report}
 use Rattle.ddds_walk.specs.declared.report.Report.TheVariants.{Ends, Loop}
 
 -- a loop: a derivation whose last domain is one of its earlier ones, which are distinct
-pub record IsLoop {V : Type 0} (g : Graph V) (keys : List V) (way : Derivation) (earlier : List V) (last : V) : Type 0 where
+pub record IsLoop {V : Type 0} (g : Graph V) (keys : List V) (way : Derivation) (earlier : List V)
+    (last : V) : Type 0 where
   pub leads : LeadsFrom g keys way last
   pub passes : PassesFrom g keys way earlier
   pub again : Contains earlier last

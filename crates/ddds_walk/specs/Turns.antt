@@ -5,7 +5,7 @@ use Rattle.std.specs.List.{AllByRecursion, sum_by}
 use Rattle.enum_base.specs.Causes.{Rose}
 use Rattle.enum_base.specs.Outside.{WhereTold}
 use Rattle.dns_name.specs.Name.{folded_labels}
-use Rattle.naptr_data.specs.Sources.{SourceState, AreDistinct, HasFewRules}
+use Rattle.naptr_data.specs.Sources.{RuleSourceState, AreDistinct, HasFewRules}
 use Rattle.naptr_data.specs.Zones.{Labels, Zone, IsOffer}
 use Rattle.naptr_data.specs.declared.offer.Offer.{Offer}
 use Rattle.naptr_data.specs.declared.offer.Offer.TheVariants as offer
@@ -55,6 +55,10 @@ IsWay [] = ⊥
 IsWay (None ∷ ds) = AllByRecursion IsSome ds
 IsWay (Some d ∷ ds) = ⊥
 
+-- a domain on the way: that of the topmost frame or of one below
+abbrev pub IsOnTheWay : Walker → Labels → Type 0
+IsOnTheWay w d = Contains (domains_of w.below) (Some d) ⊎ (w.top.domain ≡ Some d)
+
 -- what holds of a walk over any source
 pub record IsSound (limit : ℕ) (w : Walker) : Type 0 where
   pub once : AreDistinct w.asked
@@ -62,6 +66,7 @@ pub record IsSound (limit : ℕ) (w : Walker) : Type 0 where
   pub below : AllByRecursion IsPast w.below
   pub top : (w.top.rank ≤ length w.top.edges) × AreSound w.top.domain w.top.edges
   pub way : IsWay (domains_of w.below ++ w.top.domain ∷ [])
+  pub met : (d : Labels) → IsOnTheWay w d → Contains w.asked d
 
 -- how much is left to try at a frame, and in a walk
 abbrev pub left_at : Frame → ℕ
@@ -99,7 +104,7 @@ pub record HasMoved (limit : ℕ) (w w' : Walker) (turn : Turn) : Type 0 where
   pub says : (c : Client) (zones : List Zone) (keys : List Labels) → IsAt c zones keys w → Says c zones keys w' turn
 
 -- what stays of a source while it is asked, and its troubles
-pub record Serves {A : Type 0} (t u : SourceState) (result : Result A WalkFault) : Type 0 where
+pub record Serves {A : Type 0} (t u : RuleSourceState) (result : Result A WalkFault) : Type 0 where
   pub zones : u.zones ≡ t.zones
   pub room : u.room ≡ t.room
   pub lent : u.lent ≡ t.lent
@@ -107,7 +112,7 @@ pub record Serves {A : Type 0} (t u : SourceState) (result : Result A WalkFault)
   pub trouble : result ≡ Err Trouble → Rose t.troubles u.troubles × IsTrue u.failed
 
 -- how the asked domains, and what the source counts and keeps, stand to each other after a turn as before it
-pub record Counts {A : Type 0} (limit : ℕ) (t u : SourceState) (asked asked' : List Labels)
+pub record Counts {A : Type 0} (limit : ℕ) (t u : RuleSourceState) (asked asked' : List Labels)
     (result : Result A WalkFault) : Type 0 where
   pub once : AreDistinct asked'
   pub few : length asked' ≤ limit
@@ -117,7 +122,7 @@ pub record Counts {A : Type 0} (limit : ℕ) (t u : SourceState) (asked asked' :
   pub met : (n : ℕ) → result ≡ Err (Limit n) → (n ≡ limit) × (length asked' ≡ limit)
 
 -- a turn
-pub record HasTurned (c : Client) (limit : ℕ) (t u : SourceState) (w w' : Walker)
+pub record HasTurned (c : Client) (limit : ℕ) (t u : RuleSourceState) (w w' : Walker)
     (result : Result Turn WalkFault) : Type 0 where
   pub serves : Serves t u result
   pub counts : Counts limit t u w.asked w'.asked result
@@ -128,7 +133,7 @@ pub record HasTurned (c : Client) (limit : ℕ) (t u : SourceState) (w w' : Walk
       × ((n : ℕ) → result ≡ Err (Limit n) → NeedsMore (graph_of c zones) keys limit)
 
 -- a domain was asked for
-pub record HasAsked (limit : ℕ) (t u : SourceState) (asked asked' : List Labels) (next : Labels)
+pub record HasAsked (limit : ℕ) (t u : RuleSourceState) (asked asked' : List Labels) (next : Labels)
     (result : Result Offer WalkFault) : Type 0 where
   pub serves : Serves t u result
   pub counts : Counts limit t u asked asked' result
@@ -144,10 +149,6 @@ derivation_of w = derivation_in (path_of w.below ++ w.top.rank ∷ [])
 -- the place of its key is a number of eight bits
 abbrev pub IsPlaced : Walker → Type 0
 IsPlaced w = (derivation_of w).place < 256
-
--- a domain on the way: that of the topmost frame or of one below
-abbrev pub IsOnTheWay : Walker → Labels → Type 0
-IsOnTheWay w d = Contains (domains_of w.below) (Some d) ⊎ (w.top.domain ≡ Some d)
 
 -- the edge that is followed next leads to this domain
 abbrev pub IsAtStep : Walker → Labels → Type 0
@@ -195,7 +196,7 @@ pub record Opens (c : Client) (next : Labels) (o : Offer) (w w' : Walker) : Type
   pub ends : NotesOpen w next o w'.ends
 
 -- a walk that goes on, and what its source tells since it began
-pub record IsGoing (c : Client) (keys : List Labels) (limit : ℕ) (t u : SourceState) (w : Walker) : Type 0 where
+pub record IsGoing (c : Client) (keys : List Labels) (limit : ℕ) (t u : RuleSourceState) (w : Walker) : Type 0 where
   pub zones : u.zones ≡ t.zones
   pub room : u.room ≡ t.room
   pub lent : u.lent ≡ t.lent
@@ -206,7 +207,7 @@ pub record IsGoing (c : Client) (keys : List Labels) (limit : ℕ) (t u : Source
   pub told : (zones : List Zone) → t.zones ≡ Some zones → IsAt c zones keys w
 
 -- a whole walk
-pub record HasWalked (c : Client) (keys : List Labels) (limit : ℕ) (t u : SourceState)
+pub record HasWalked (c : Client) (keys : List Labels) (limit : ℕ) (t u : RuleSourceState)
     (result : Result Report WalkFault) : Type 0 where
   pub asked : List Labels
   pub serves : Serves t u result

@@ -25,7 +25,8 @@ pub fn one_report()
 
 /// There is at most one least loop: its derivation, its domains and the domain that it comes back to.
 pub fn one_loop()
-    ensures { (c : Client) (zones : List Zone) (keys : List Labels) (one other : Derivation) (ds es : List Labels) (d e : Labels) →
+    ensures { (c : Client) (zones : List Zone) (keys : List Labels) (one other : Derivation) (ds es : List Labels)
+        (d e : Labels) →
         IsLeastLoop (graph_of c zones) keys one ds d → IsLeastLoop (graph_of c zones) keys other es e →
         (one ≡ other) × (ds ≡ es) × (d ≡ e) }
 {
@@ -50,12 +51,14 @@ pub fn some_report()
 /// Where there is no loop, the needed domains are all to which some derivation leads.
 pub fn all_needed()
     ensures { (c : Client) (zones : List Zone) (keys : List Labels) (way : Derivation) (d : Labels) →
-        HasNoLoop (graph_of c zones) keys → LeadsFrom (graph_of c zones) keys way d → IsNeeded (graph_of c zones) keys d }
+        HasNoLoop (graph_of c zones) keys → LeadsFrom (graph_of c zones) keys way d →
+        IsNeeded (graph_of c zones) keys d }
 {}
 
 /// The domains on the least loop are needed, though no derivation round it is.
 pub fn loop_needed()
-    ensures { (c : Client) (zones : List Zone) (keys : List Labels) (way : Derivation) (ds : List Labels) (d x : Labels) →
+    ensures { (c : Client) (zones : List Zone) (keys : List Labels) (way : Derivation) (ds : List Labels)
+        (d x : Labels) →
         IsLeastLoop (graph_of c zones) keys way ds d → Contains ds x → IsNeeded (graph_of c zones) keys x }
 {
     one_offer();
@@ -68,8 +71,8 @@ pub fn needed_count()
         AreNeeded (graph_of c zones) keys ds → AreNeeded (graph_of c zones) keys es → length ds ≡ length es }
 {}
 
-/// At most so many domains are needed as the zones hold rules and aliases and as there are distinct keys: `names` is any
-/// list in which each key stands.
+/// At most so many domains are needed as the zones hold rules and aliases and as there are distinct keys: `names` is
+/// any list in which each key stands.
 pub fn needed_bound()
     ensures { (c : Client) (zones : List Zone) (keys names ds : List Labels) → Holds names keys →
         AreSomeNeeded (graph_of c zones) keys ds → length ds ≤ rules_and_aliases zones + length names }

@@ -5,12 +5,13 @@ ghost use Rattle.dns_name.specs.Name.{folded_labels};
 ghost use Rattle.naptr_data.specs.Sources.{AreDistinct, HasFewRules};
 ghost use Rattle.naptr_data.specs.declared.offer.Offer.TheVariants as Offer;
 ghost use Rattle.ddds_walk.specs.Clients.{meant};
-ghost use Rattle.ddds_walk.specs.Turns.{IsSound, IsAtStep, IsAtStop, IsOnTheWay, HasAsked, HasMoved, HasTurned, IsNextEnd};
-ghost use Rattle.ddds_walk.specs.Turns.{IsPlaced, Notes, Opens, Sees, at_root, derivation_of};
+ghost use Rattle.ddds_walk.specs.Turns.{IsSound, IsAtStep, IsAtStop, IsOnTheWay, HasAsked, HasMoved, HasTurned};
+ghost use Rattle.ddds_walk.specs.Turns.{IsNextEnd, IsPlaced, Notes, Opens, Sees, at_root, derivation_of};
 ghost use Rattle.ddds_walk.specs.Ways.{domains_of};
 ghost use Rattle.ddds_walk.specs.declared.edge.Edge.TheVariants.{Step};
 ghost use Rattle.ddds_walk.specs.declared.walker.Turn.TheVariants as Turn;
 
+use crate::asked::Asked;
 use crate::client::Client;
 use crate::derivation::Derivation;
 use crate::domain_edges::edges_of;
@@ -29,7 +30,7 @@ use std::mem::replace;
 #[derive(Drop)]
 pub(crate) struct Walker {
     // The folded domains that were asked for, in this order.
-    pub(crate) asked: Names,
+    pub(crate) asked: Asked,
     // The ends that were found.
     pub(crate) ends: Ends,
     // The frames on the way to the topmost one, the root first.
@@ -65,7 +66,7 @@ impl Walker {
         ensures { IfOk result (λ w. w ≡ at_root (map folded_labels keys.now)) }
     {
         Ok(Walker {
-            asked: Names::new(alloc),
+            asked: Asked::new(alloc),
             ends: Ends::new(alloc),
             below: Frames::new(alloc),
             top: Frame {
@@ -184,15 +185,15 @@ impl Walker {
         ensures turned { HasTurned (meant P.meaning client.now) limit (S.state source.old) (S.state source.new)
             self.old self.new result }
     {
+        if !self.asked.has(next) {
+            return self.enter(alloc, client, source, limit, next);
+        }
         if self.is_on_the_way(next) {
             let path = self.back(alloc, limit, next)?;
             return Ok(Turn::Back(path));
         }
-        if self.has_asked(next) {
-            self.skip(limit, next);
-            return Ok(Turn::On);
-        }
-        self.enter(alloc, client, source, limit, next)
+        self.skip(limit, next);
+        Ok(Turn::On)
     }
 
     // The loop that an edge to a domain on the way closes.
@@ -234,7 +235,6 @@ impl Walker {
         requires sound { IsSound limit self.old }
         requires here { IsAtStep self.old next.now }
         requires new { ¬ Contains self.old.asked next.now }
-        requires away { ¬ IsOnTheWay self.old next.now }
         ensures turned { HasTurned (meant P.meaning client.now) limit (S.state source.old) (S.state source.new)
             self.old self.new result }
     {
@@ -342,16 +342,6 @@ impl Walker {
     {
         is_among(self.below.as_slice(), domain) || is_domain(self.top.domain, *domain)
     }
-
-    // Whether the domain was asked for.
-    fn has_asked(&self, domain: &Name) -> bool
-        ensures { IsTrue result ↔ Contains self.now.asked domain.now }
-    {
-        self.asked
-            .as_slice()
-            .iter()
-            .any(|name| is_domain(Some(*name), *domain))
-    }
 }
 
 // One edge to each key, folded.
@@ -368,7 +358,7 @@ fn steps_to(alloc: Global, keys: &[Name]) -> Result<Edges, MemoryFault>
 // Asks for a domain, unless so many were asked as the limit allows.
 fn ask<S: RuleSource>(
     alloc: Global,
-    asked: &mut Names,
+    asked: &mut Asked,
     source: &mut S,
     limit: u32,
     next: &Name,
@@ -379,10 +369,10 @@ fn ask<S: RuleSource>(
     requires folded { folded_labels next.now ≡ next.now }
     ensures asked { HasAsked limit (S.state source.old) (S.state source.new) asked.old asked.new next.now result }
 {
-    if asked.as_slice().len() >= limit as usize {
+    if asked.len() >= limit as usize {
         return Err(WalkFault::Limit { asked: limit });
     }
-    asked.push(*next)?;
+    asked.push(next)?;
     match source.offer(alloc, next) {
         Ok(offer) => Ok(offer),
         Err(SourceFault::Trouble) => Err(WalkFault::Trouble),

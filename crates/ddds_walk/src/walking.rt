@@ -27,8 +27,8 @@ use std::alloc::Global;
 use subst_expr::laws::one_output;
 
 /// Follows the admissible rules from 1 to 8 keys on: every end once, with its least derivation and in rising order, or
-/// the least loop where there is one. A derivation is less by the place of its key first. Each domain is asked for once,
-/// at most `limit` of them (RFC 3402, section 3).
+/// the least loop where there is one. A derivation is less by the place of its key first. Each domain is asked for
+/// once, at most `limit` of them (RFC 3402, section 3).
 ///
 /// # Errors
 /// `Limit` where `limit` domains were asked and a further one is needed, `Trouble` of the source, and `Memory`.
@@ -57,7 +57,8 @@ pub fn walk<P: DddsApp, S: RuleSource>(
         (AsksAll (graph_of (client_of (P.meaning app.now) (wanted_text wanted.entry) aus.now) zones)
         (map folded_labels keys.now) (S.state source.old).asks (S.state source.new).asks)) }
     ensures bound { WhereTold (S.state source.old).zones (λ zones. OnOk result
-        (AsksFew (rules_and_aliases zones) (map folded_labels keys.now) (S.state source.old).asks (S.state source.new).asks)) }
+        (AsksFew (rules_and_aliases zones) (map folded_labels keys.now)
+        (S.state source.old).asks (S.state source.new).asks)) }
     ensures most { AsksAtMost limit (S.state source.old).asks (S.state source.new).asks }
 
     // The limit, and trouble.
