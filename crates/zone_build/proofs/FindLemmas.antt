@@ -330,22 +330,22 @@ least_at records owner places true c are same apex not = elim (least_cases (kind
         (f.0, f.1, ap folded_labels (sym f.3) ∙ same, sym f.4 ∙ sym own.0),
     λ r k of. let g = stands records r k in let e = own.0 in let l = own.1 in let m = at r g.0 g.1 of in omega arith,
   )
-  | inr start ↦ (
+  | inr at_soa ↦ (
     let w = (soa_first records c).0 in
         let f = record_at records 0 w in
-        (f.0, f.1, ap folded_labels (sym f.3) ∙ apex refl, sym f.4 ∙ (soa_first records c).1 ∙ sym start.0),
-    λ r k of. let g = stands records r k in let e = start.0 in let l = start.1 in let m = at r g.0 g.1 of in omega arith,
+        (f.0, f.1, ap folded_labels (sym f.3) ∙ apex refl, sym f.4 ∙ (soa_first records c).1 ∙ sym at_soa.0),
+    λ r k of. let g = stands records r k in let e = at_soa.0 in let l = at_soa.1 in let m = at r g.0 g.1 of in omega arith,
   )
 ]
   where
     at : (r : Record) (k : ℕ) → StandsAt records r k → AreSame r.owner owner → least_kind_with true (kind_at records places.first) ≤ r.kind
     at r zero s of = let e = sym s.kind ∙ (soa_first records c).1 in elim (least_cases (kind_at records places.first)) [
       | inl own ↦ let p = own.0 in let q = own.1 in omega arith
-      | inr start ↦ let p = start.0 in omega arith
+      | inr at_soa ↦ let p = at_soa.0 in omega arith
     ]
     at r (suc k) s of = let m = least_other records owner places c are same r (suc k) (omega arith) s of in elim (least_cases (kind_at records places.first)) [
       | inl own ↦ let p = own.0 in let q = own.1 in omega arith
-      | inr start ↦ let p = start.0 in let q = start.1 in omega arith
+      | inr at_soa ↦ let p = at_soa.0 in let q = at_soa.1 in omega arith
     ]
 
 pub least_alone : (records : List Record) (index : Indexed) (owner : Labels) → IsCanonical records
@@ -395,7 +395,7 @@ pub apex_first : (zone : Zone) → IsValid zone → owner_at zone.records 0 ≡ 
 apex_first zone v =
     let f = soa_first zone.records v.order in
     let r = record_at zone.records 0 f.0 in
-    r.3 ∙ v.start r.0 r.1 (sym r.4 ∙ f.1)
+    r.3 ∙ v.soa r.0 r.1 (sym r.4 ∙ f.1)
 
 pub has_below_iff : (records : List Record) (apex name : Labels) (index : Indexed) (o : Option Places) (b : Bool)
     → IsIndex records apex index → owner_at records 0 ≡ apex → IsBelow name apex → ¬ AreSame name apex → b ≡ is_some o

@@ -93,7 +93,7 @@ rule_or_not : (said : Content) → ((rule : Naptr) × (said ≡ content.Naptr ru
 rule_or_not (content.A address) = inr (λ r e. cc)
 rule_or_not (content.Ns server) = inr (λ r e. cc)
 rule_or_not (content.Cname target) = inr (λ r e. cc)
-rule_or_not (content.Soa start) = inr (λ r e. cc)
+rule_or_not (content.Soa fields) = inr (λ r e. cc)
 rule_or_not (content.Ptr name) = inr (λ r e. cc)
 rule_or_not (content.Mx preference exchange) = inr (λ r e. cc)
 rule_or_not (content.Txt texts) = inr (λ r e. cc)

@@ -208,9 +208,9 @@ set_none records owner kind [] s none one c i = elim (Contains-append_cases s.be
 ]
 
 -- the first record of a valid zone is its SOA
-pub start_first : (records : List Record) (start : Record) → IsCanonical records → start ≡ get_or records 0 start → Contains records start × (start.kind ≡ soa)
-start_first [] start c is = absurd c
-start_first (x ∷ rest) start c is =
+pub soa_first : (records : List Record) (the_soa : Record) → IsCanonical records → the_soa ≡ get_or records 0 the_soa → Contains records the_soa × (the_soa.kind ≡ soa)
+soa_first [] the_soa c is = absurd c
+soa_first (x ∷ rest) the_soa c is =
     (subst (λ r. Contains (x ∷ rest) r) (sym is) (Contains-head x rest), ap (λ (r : Record). r.kind) is ∙ c.0)
 
 -- the least kind that answers

@@ -4,7 +4,7 @@ ghost use Rattle.zone_db.specs.LookUp.{Answers};
 ghost use Rattle.zone_db.specs.Seeking.{IsLeastKind, IsAnswer};
 
 use crate::found::Found;
-use crate::start::start_of;
+use crate::soa::soa_of;
 use dns_name::Name;
 use zone_build::Zone;
 
@@ -18,7 +18,7 @@ pub(crate) fn answer<'a>(zone: &'a Zone, source: &Name, asked: u16) -> Found<'a>
     }
     match least_kind(zone, source, asked) {
         Some(kind) => Found::Set(zone.set(source, kind)),
-        None => Found::NoSet(start_of(zone)),
+        None => Found::NoSet(soa_of(zone)),
     }
 }
 
