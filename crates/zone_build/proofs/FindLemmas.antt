@@ -239,13 +239,13 @@ set_renamed records one other kind set same s = record {
 
 -- no record has that owner but the SOA
 pub owner_lacking : (records : List Record) (index : Indexed) (owner : Labels) → FindsOwners records index
-    → NoneMeets At records owner (candidates index (key_of owner)) → (k : ℕ) → 0 < k → k < length records
+    → NoneMeets At records owner (candidates index (key_of index.seed owner)) → (k : ℕ) → 0 < k → k < length records
     → ¬ AreSame (owner_at records k) owner
 owner_lacking records index owner finds none k p l same =
-    finds.owners k p l (λ one c m. none one (subst (λ n. Contains (candidates index n) one) (same_keys (owner_at records k) owner same) c) (m ∙ same))
+    finds.owners k p l (λ one c m. none one (subst (λ n. Contains (candidates index n) one) (same_keys index.seed (owner_at records k) owner same) c) (m ∙ same))
 
 pub set_lacking : (records : List Record) (index : Indexed) (owner : Labels) (kind : ℕ) (set : List Record)
-    → IsCanonical records → FindsOwners records index → NoneMeets At records owner (candidates index (key_of owner))
+    → IsCanonical records → FindsOwners records index → NoneMeets At records owner (candidates index (key_of index.seed owner))
     → kind ≢ soa → set ≡ take 0 records → IsSet records owner kind set
 set_lacking records index owner kind set c finds none other is = record {
   before = [];
@@ -349,7 +349,7 @@ least_at records owner places true c are same apex not = elim (least_cases (kind
     ]
 
 pub least_alone : (records : List Record) (index : Indexed) (owner : Labels) → IsCanonical records
-    → FindsOwners records index → NoneMeets At records owner (candidates index (key_of owner))
+    → FindsOwners records index → NoneMeets At records owner (candidates index (key_of index.seed owner))
     → AreSame (owner_at records 0) owner → IsLeastKindAt records owner (Some soa)
 least_alone records index owner c finds none same = (
   let w = (soa_first records c).0 in
@@ -363,7 +363,7 @@ least_alone records index owner c finds none same = (
     at r (suc k) s of = absurd (owner_lacking records index owner finds none (suc k) (omega arith) s.within (ap folded_labels s.owner ∙ of))
 
 pub least_nowhere : (records : List Record) (index : Indexed) (owner : Labels) → FindsOwners records index
-    → NoneMeets At records owner (candidates index (key_of owner)) → ¬ AreSame (owner_at records 0) owner
+    → NoneMeets At records owner (candidates index (key_of index.seed owner)) → ¬ AreSame (owner_at records 0) owner
     → IsLeastKindAt records owner None
 least_nowhere records index owner finds none not r k of = let g = stands records r k in at g.0 g.1
   where
@@ -382,7 +382,7 @@ below_met records places name are below =
 
 pub below_lacking : (records : List Record) (apex name : Labels) (index : Indexed) → IsIndex records apex index
     → owner_at records 0 ≡ apex → IsBelow name apex → ¬ AreSame name apex
-    → NoneMeets Below records name (candidates index (key_of name)) → (one : Record) → Contains records one
+    → NoneMeets Below records name (candidates index (key_of index.seed name)) → (one : Record) → Contains records one
     → ¬ IsBelow one.owner name
 below_lacking records apex name index is first inside not none one c below = let g = stands records one c in at g.0 g.1
   where
@@ -399,9 +399,9 @@ apex_first zone v =
 
 pub has_below_iff : (records : List Record) (apex name : Labels) (index : Indexed) (o : Option Places) (b : Bool)
     → IsIndex records apex index → owner_at records 0 ≡ apex → IsBelow name apex → ¬ AreSame name apex → b ≡ is_some o
-    → IfSome o (λ one. Contains (candidates index (key_of name)) one)
+    → IfSome o (λ one. Contains (candidates index (key_of index.seed name)) one)
     → IfSome o (λ one. IsBelow (owner_at records one.first) name)
-    → IfNone o (NoneMeets Below records name (candidates index (key_of name)))
+    → IfNone o (NoneMeets Below records name (candidates index (key_of index.seed name)))
     → IsTrue b ↔ ((one : Record) × Contains records one × IsBelow one.owner name)
 has_below_iff records apex name index None b is first inside not e there meets none = (
   λ t. absurd (cc),
@@ -409,4 +409,4 @@ has_below_iff records apex name index None b is first inside not e there meets n
       (below_lacking records apex name index is first inside not none one c below),
 )
 has_below_iff records apex name index (Some places) b is first inside not e there meets none =
-    (λ t. below_met records places name (is.owners.places (key_of name) places there) meets, λ s. cc)
+    (λ t. below_met records places name (is.owners.places (key_of index.seed name) places there) meets, λ s. cc)
