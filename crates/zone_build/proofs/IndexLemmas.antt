@@ -8,23 +8,20 @@ use Rattle.std.proofs.lemmas.List.{take_more, take_all, take-map, drop-map, map-
 use Rattle.enum_base.specs.Folding.{folded, folded_byte}
 use Rattle.dns_name.proofs.NameLemmas.{folded-wire_of}
 use Rattle.zone_build.specs.declared.sought.Sought.{Sought}
-use Rattle.std.specs.Option.{option_to_list, option_copied}
+use Rattle.std.specs.Option.{option_to_list}
 use Rattle.std.specs.Map.{lookup}
-use Rattle.std.specs.List.{AllByRecursion}
 use Rattle.std.specs.declared.cmp.Ordering.{Ordering}
 use Rattle.std.specs.declared.cmp.Ordering.TheVariants.{Less, Equal, Greater}
-use Rattle.std.specs.Ordering.{nat_cmp}
 use Rattle.std.specs.Cmp.{IsTotalOrder}
 use Rattle.std.proofs.lemmas.Cmp.{nat_list_cmp_total, on_total, tied_itself}
-use Rattle.std.proofs.lemmas.List.Elements.{Contains-append_left, Contains-append_right, Contains-append_cases, Contains-push, Contains-push_cases}
+use Rattle.std.proofs.lemmas.List.Elements.{Contains-append_left, Contains-append_right, Contains-append_cases}
 use Rattle.naptr_data.proofs.CutLemmas.{Contains-head, Contains-after, Contains-none, head_or_after}
 use Rattle.naptr_data.proofs.BelowLemmas.{below_above, below_trans, below_same_top, below_same_name, length_below, length_same}
 use Rattle.naptr_data.proofs.DecideLemmas.{below_parts}
 use Rattle.naptr_data.specs.Zones.{Labels}
 use Rattle.dns_name.specs.Name.{AreSame, IsBelow, IsName, folded_labels, wire_of, parent_of}
-use Rattle.dns_wire.specs.Kinds.{soa}
 use Rattle.dns_wire.specs.declared.record.Record.{Record}
-use Rattle.zone_build.specs.Zone.{IsRising, IsCanonical, order_of, owner_order}
+use Rattle.zone_build.specs.Zone.{IsRising, IsCanonical, order_of}
 use Rattle.zone_build.specs.Indexing.{Indexed, IsInserted, AllPlaces, ArePlaces, Meets, NoneMeets, FindsOwners, IsIndex}
 use Rattle.zone_build.specs.Indexing.{IsRunEnd, HasBelow, CoversAbove, IsGrown, CoversBefore, IsAboveEarlier, candidates, key_of, mixed, joined}
 use Rattle.zone_build.specs.Indexing.{number_after, state_after, owner_at, kind_at}
@@ -32,7 +29,6 @@ use Rattle.zone_build.specs.declared.places.Places.{Places}
 use Rattle.zone_build.specs.declared.key.Key.TheVariants.{Owner}
 use Rattle.zone_build.proofs.ListLemmas.{AllByRecursion-contains, turn_of, turned_all}
 use Rattle.zone_build.proofs.OrderLemmas.{bytes_cmp, three, less_not_after, then_before, key_not_after}
-use Rattle.zone_build.specs.declared.sought.Sought.TheVariants.{At, Below}
 
 -- the record at a place
 pub record_at : (xs : List Record) (k : ℕ) → k < length xs

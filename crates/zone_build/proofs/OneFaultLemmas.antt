@@ -29,8 +29,8 @@ abbrev HasNoLarge : List Record → Type 0
 HasNoLarge given = (zone : Zone) × IsBuilt given zone × ((one : Record) → Contains zone.records one → ¬ IsLarge zone.records one)
 
 -- which fault it is, test after test
-abbrev IsCut : List Record → ZoneFault → Type 0
-IsCut given f = (place : ℕ) × (one : Record) × IsFirst IsWildcardCut given place one × (f ≡ fault.WildcardCut (folded_labels one.owner))
+abbrev IsCutFault : List Record → ZoneFault → Type 0
+IsCutFault given f = (place : ℕ) × (one : Record) × IsFirst IsWildcardCut given place one × (f ≡ fault.WildcardCut (folded_labels one.owner))
 
 abbrev IsTooLarge : List Record → ZoneFault → Type 0
 IsTooLarge given f =
@@ -45,7 +45,7 @@ abbrev IsOutside : List Record → ZoneFault → Type 0
 IsOutside given f = (place : ℕ) × (one : Record) × IsFirst (λ r. ¬ IsInside given r) given place one × (f ≡ fault.OutOfZone place)
 
 abbrev FromLarge : List Record → ZoneFault → Type 0
-FromLarge given f = IsTooLarge given f ⊎ (HasNoLarge given × IsCut given f)
+FromLarge given f = IsTooLarge given f ⊎ (HasNoLarge given × IsCutFault given f)
 
 abbrev FromClash : List Record → ZoneFault → Type 0
 FromClash given f = IsClash given f ⊎ (NoneClashes given × FromLarge given f)
@@ -95,7 +95,7 @@ tested given fault.Memory h m = absurd (m refl)
 clashing : (given : List Record) (owner : Labels) → NoneClashes given → Clashes given owner → ⊥
 clashing given owner none (one, other, c, d, a, b, k, differ) = differ (none one other c d k (a ∙ sym b))
 
-one_cut : (given : List Record) (f g : ZoneFault) → IsCut given f → IsCut given g → f ≡ g
+one_cut : (given : List Record) (f g : ZoneFault) → IsCutFault given f → IsCutFault given g → f ≡ g
 one_cut given f g (place, one, first, is) (place', one', first', is') =
     is ∙ ap (λ (r : Record). fault.WildcardCut (folded_labels r.owner)) (one_first IsWildcardCut given place place' one one' first first').1 ∙ sym is'
 

@@ -23,7 +23,7 @@ use Rattle.zone_build.proofs.OrderLemmas.{repeats_equal}
 use Rattle.zone_build.proofs.RdataLemmas.{kind_is}
 use Rattle.zone_build.specs.Plain.{item_of, owned_of, plain_of, told}
 use Rattle.zone_db.specs.Sets.{AreApart, AreZones}
-use Rattle.zone_db.specs.LookUp.{Decides, IsCut, IsServed, HasKind, Answers, MeetsAlias, IsAnswered, IsFound, AreRulesOf, ReadsAs}
+use Rattle.zone_db.specs.LookUp.{Decides, IsCut, IsServed, HasKind, AsksFor, MeetsAlias, IsAnswered, IsFound, AreRulesOf, ReadsAs}
 use Rattle.zone_db.specs.declared.found.Found.{Found}
 use Rattle.zone_db.specs.declared.found.Found.TheVariants as found
 use Rattle.zone_build.proofs.ListLemmas.{AllByRecursion-contains}
@@ -192,7 +192,7 @@ rule_has zone source r valid s =
     let is = rule_content f.0.content r f.3 in
     (f.0, f.1, (f.2, kind_of_record zone f.0 valid f.1 ∙ ap kind_of is), is)
 
-no_answer : ¬ Answers naptr cname
+no_answer : ¬ AsksFor naptr cname
 no_answer (inl e) = absurd (omega (arith, e))
 no_answer (inr e) = absurd (omega (arith, e))
 

@@ -10,7 +10,7 @@ use Rattle.dns_wire.specs.declared.record.Record.{Record}
 use Rattle.zone_build.specs.Zone.{Zone, IsIn, IsSet, IsValid}
 use Rattle.zone_build.specs.Plain.{plain_of}
 use Rattle.zone_db.specs.Sets.{AreZones}
-use Rattle.zone_db.specs.LookUp.{Decides, IsHighestCut, HasKind, Answers, MeetsAlias, IsAnswered, IsSoaOf, IsFound}
+use Rattle.zone_db.specs.LookUp.{Decides, IsHighestCut, HasKind, AsksFor, MeetsAlias, IsAnswered, IsSoaOf, IsFound}
 use Rattle.zone_db.specs.LookUp.{Shown, outside, cut_of, alias_of, set_of, no_set, no_name, shown}
 use Rattle.zone_db.specs.Seeking.{IsUncut}
 use Rattle.zone_db.specs.declared.found.Found.{Found}
@@ -24,7 +24,7 @@ use Rattle.zone_build.proofs.OneZoneLemmas.{one_soa}
 abbrev IsShownThere : Zone → Labels → ℕ → Shown → Type 0
 IsShownThere zone source asked s =
     ((kind : ℕ) × (records : List Record) × IsAnswered zone source asked kind × IsSet zone.records source kind records × (s ≡ set_of records))
-    ⊎ (((kind : ℕ) → HasKind zone source kind → ¬ Answers asked kind) × ((the_soa : Record) × IsSoaOf zone the_soa × (s ≡ no_set the_soa)))
+    ⊎ (((kind : ℕ) → HasKind zone source kind → ¬ AsksFor asked kind) × ((the_soa : Record) × IsSoaOf zone the_soa × (s ≡ no_set the_soa)))
 
 -- at a source that exists
 abbrev IsShownWhere : Zone → Labels → ℕ → Shown → Type 0

@@ -16,7 +16,7 @@ use Rattle.zone_build.specs.Zone.{Zone, IsIn, IsSet, IsCanonical, IsValid}
 use Rattle.zone_build.specs.Finding.{IsLeastKindAt}
 use Rattle.zone_build.proofs.IndexLemmas.{below_both}
 use Rattle.zone_build.specs.Plain.{owned_of, plain_of}
-use Rattle.zone_db.specs.LookUp.{IsHighestCut, HasKind, Answers, MeetsAlias, IsAnswered, every}
+use Rattle.zone_db.specs.LookUp.{IsHighestCut, HasKind, AsksFor, MeetsAlias, IsAnswered, every}
 use Rattle.zone_db.specs.Seeking.{IsClosest, IsHighest, IsNsAt, IsLeastKind, IsUncut}
 use Rattle.zone_build.proofs.ListLemmas.{AllByRecursion-contains}
 
@@ -235,16 +235,16 @@ pub is_answered : (zone : Zone) (source : Labels) (asked kind : ℕ) → IsLeast
 is_answered zone source asked kind (h, least) = record {
   here = (h.0, h.1, (h.2, h.3));
   answers = h.4;
-  least = λ other (one, c, i) answers. let l = least one c i.0 (subst (Answers asked) (sym i.1) answers) in let e = i.1 in omega (arith, l, e);
+  least = λ other (one, c, i) answers. let l = least one c i.0 (subst (AsksFor asked) (sym i.1) answers) in let e = i.1 in omega (arith, l, e);
 }
 
 pub is_unanswered : (zone : Zone) (source : Labels) (asked : ℕ) → IsLeastKind zone.records source asked None
-    → (kind : ℕ) → HasKind zone source kind → ¬ Answers asked kind
-is_unanswered zone source asked none kind (one, c, i) answers = none one c i.0 (subst (Answers asked) (sym i.1) answers)
+    → (kind : ℕ) → HasKind zone source kind → ¬ AsksFor asked kind
+is_unanswered zone source asked none kind (one, c, i) answers = none one c i.0 (subst (AsksFor asked) (sym i.1) answers)
 
 -- an alias is met, or not
 pub alias_met : (zone : Zone) (source : Labels) (asked : ℕ) (set : List Record) → IsSet zone.records source cname set
-    → 0 < length set → ¬ Answers asked cname → MeetsAlias zone source asked
+    → 0 < length set → ¬ AsksFor asked cname → MeetsAlias zone source asked
 alias_met zone source asked set s some not = (set_has zone.records source cname set s some, not)
 
 pub alias_lacking : (zone : Zone) (source : Labels) (asked : ℕ) (set : List Record)

@@ -50,18 +50,18 @@ abbrev pub HasKind : Zone → Labels → ℕ → Type 0
 HasKind zone name kind = (one : Record) × Contains zone.records one × IsIn name kind one
 
 -- a question for one kind is answered by records of that kind, one for all kinds by every record
-abbrev pub Answers : ℕ → ℕ → Type 0
-Answers asked kind = (asked ≡ kind) ⊎ (asked ≡ every)
+abbrev pub AsksFor : ℕ → ℕ → Type 0
+AsksFor asked kind = (asked ≡ kind) ⊎ (asked ≡ every)
 
 -- an alias is met: a CNAME stands there, and neither CNAMEs nor all kinds are asked for (RFC 1034, 4.3.2, step 3a)
 abbrev pub MeetsAlias : Zone → Labels → ℕ → Type 0
-MeetsAlias zone source asked = HasKind zone source cname × ¬ Answers asked cname
+MeetsAlias zone source asked = HasKind zone source cname × ¬ AsksFor asked cname
 
 -- the kind that is answered: of those there that answer the question the least
 pub record IsAnswered (zone : Zone) (source : Labels) (asked kind : ℕ) : Type 0 where
   pub here : HasKind zone source kind
-  pub answers : Answers asked kind
-  pub least : (other : ℕ) → HasKind zone source other → Answers asked other → kind ≤ other
+  pub answers : AsksFor asked kind
+  pub least : (other : ℕ) → HasKind zone source other → AsksFor asked other → kind ≤ other
 
 -- the SOA of a zone
 abbrev pub IsSoaOf : Zone → Record → Type 0
@@ -98,7 +98,7 @@ IsFound zones name asked (found.Set set) =
     × IsAnswered zone source asked kind × IsSet zone.records source kind set.now
 IsFound zones name asked (found.NoSet the_soa) =
     (zone : Zone) × (source : Labels) × IsServed zones name zone source × Exists (plain_of zone) source × ¬ MeetsAlias zone source asked
-    × ((kind : ℕ) → HasKind zone source kind → ¬ Answers asked kind) × IsSoaOf zone the_soa.now
+    × ((kind : ℕ) → HasKind zone source kind → ¬ AsksFor asked kind) × IsSoaOf zone the_soa.now
 
 -- the rules of a set, in the order of rules
 pub record AreRulesOf (set : List Record) (rules : List Naptr) : Type 0 where

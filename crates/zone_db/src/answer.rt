@@ -1,6 +1,6 @@
 //! What is answered from the records at a name.
 ghost use Rattle.std.specs.Prelude.{◌↔◌, IsTrue};
-ghost use Rattle.zone_db.specs.LookUp.{Answers};
+ghost use Rattle.zone_db.specs.LookUp.{AsksFor};
 ghost use Rattle.zone_db.specs.Seeking.{IsLeastKind, IsAnswer};
 
 use crate::found::Found;
@@ -24,7 +24,7 @@ pub(crate) fn answer<'a>(zone: &'a Zone, source: &Name, asked: u16) -> Found<'a>
 
 // Whether a question for one kind is answered by records of another.
 fn answers(asked: u16, kind: u16) -> bool
-    ensures { IsTrue result ↔ Answers asked kind }
+    ensures { IsTrue result ↔ AsksFor asked kind }
 {
     asked == kind || asked == 255
 }

@@ -1,7 +1,7 @@
-use Rattle.std.proofs.Common.{Some, refl, sym, subst, ap, ◌∙◌, arith}
+use Rattle.std.proofs.Common.{Some, sym, subst, ap, ◌∙◌, arith}
 use Rattle.dns_name.specs.Name.{AreSame}
 use Rattle.zone_build.specs.Finding.{IsLeastKindAt, least_kind_with}
-use Rattle.zone_build.specs.Indexing.{key_of, owner_at, kind_at}
+use Rattle.zone_build.specs.Indexing.{key_of}
 use Rattle.zone_build.proofs.FindLemmas.{least_at, least_alone, least_nowhere}
 use Rattle.zone_build.proofs.find.least_kind_of.Goals as goal
 

@@ -10,16 +10,16 @@ pub returns-in_ok-push-in-Some : goal.returns-in_ok-push-in-Some
 returns-in_ok-push-in-Some c =
     let old = c.self.inside in
     let is : lookup (nat_eq c.args.key) old.map.entries ≡ Some c.in-Some.before =
-    let e = c.in_ok-match-insert.ensures.old in let f = c.in-Some.is in cc in
+    let e = c.in_ok-before.ensures.old in let f = c.in-Some.is in cc in
     rw (← c.self.view_is)
-    (inserted_key _ _ c.args.key c.args.places c.in_ok-match-insert.ensures.updates.0 c.in_ok-match-insert.ensures.updates.1
+    (inserted_key _ _ c.args.key c.args.places c.in_ok-before.ensures.updates.0 c.in_ok-before.ensures.updates.1
     (c.in_ok-push-in-Some.ensures.items ∙ ap (λ (o : Option Places). old.rest.items ++ option_to_list o) (sym is)) refl)
 
 pub returns-in-None : goal.returns-in-None
 returns-in-None c =
     let old = c.self.inside in
     let is : lookup (nat_eq c.args.key) old.map.entries ≡ None =
-    let e = c.in_ok-match-insert.ensures.old in let f = c.in-None.is in cc in
+    let e = c.in_ok-before.ensures.old in let f = c.in-None.is in cc in
     rw (← c.self.view_is)
-    (inserted_key _ _ c.args.key c.args.places c.in_ok-match-insert.ensures.updates.0 c.in_ok-match-insert.ensures.updates.1
+    (inserted_key _ _ c.args.key c.args.places c.in_ok-before.ensures.updates.0 c.in_ok-before.ensures.updates.1
     (list_kept old.rest.items (lookup (nat_eq c.args.key) old.map.entries) is) refl)
