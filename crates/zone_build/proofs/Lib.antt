@@ -21,4 +21,4 @@ pub mod SetRunLemmas
 pub mod SizeLemmas
 pub mod SomeZoneLemmas
 pub mod SortLemmas
-pub mod StartLemmas
+pub mod SoaLemmas

@@ -22,10 +22,10 @@ pub answered_found : (zone : Zone) (name source : Labels) (asked : ℕ) (f : Fou
     → IsFoundIn zone name asked f
 answered_found zone name source asked found.Outside u s e a = absurd a
 answered_found zone name source asked (found.Cut set) u s e a = absurd a
-answered_found zone name source asked (found.NoName start) u s e a = absurd a
+answered_found zone name source asked (found.NoName the_soa) u s e a = absurd a
 answered_found zone name source asked (found.Alias set) u s e a = (source, u, s, a)
 answered_found zone name source asked (found.Set set) u s e a = (source, u, s, a)
-answered_found zone name source asked (found.NoSet start) u s e a = (source, u, s, e, a)
+answered_found zone name source asked (found.NoSet the_soa) u s e a = (source, u, s, e, a)
 
 pub own_source : (zone : Zone) (name : Labels) → Exists (plain_of zone) name → IsSource (plain_of zone) name name
 own_source zone name e = inl (e, refl)
@@ -43,13 +43,13 @@ pub found_of : (zones : List Zone) (zone : Zone) (name : Labels) (asked : ℕ) (
     → IsFoundIn zone name asked f → IsFound zones name asked f
 found_of zones zone name asked found.Outside d h = absurd h
 found_of zones zone name asked (found.Cut set) d (owner, highest, s) = (zone, owner, d, highest, s)
-found_of zones zone name asked (found.NoName start) d (source, u, s, not, is) =
+found_of zones zone name asked (found.NoName the_soa) d (source, u, s, not, is) =
     (zone, source, record { decides = d; uncut = u; stands_for = s }, not, is)
 found_of zones zone name asked (found.Alias set) d (source, u, s, a) =
     (zone, source, record { decides = d; uncut = u; stands_for = s }, a.0, a.1)
 found_of zones zone name asked (found.Set set) d (source, u, s, (kind, not, answered, is)) =
     (zone, source, kind, record { decides = d; uncut = u; stands_for = s }, not, answered, is)
-found_of zones zone name asked (found.NoSet start) d (source, u, s, e, (not, none, is)) =
+found_of zones zone name asked (found.NoSet the_soa) d (source, u, s, e, (not, none, is)) =
     (zone, source, record { decides = d; uncut = u; stands_for = s }, e, not, none, is)
 
 -- the deciding zone, one zone after another

@@ -12,8 +12,8 @@ mod laws;
 mod lookup;
 mod offer;
 mod set;
+mod soa;
 mod source;
-mod start;
 mod words;
 
 pub use fault::AddFault;
