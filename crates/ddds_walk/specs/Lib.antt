@@ -1,4 +1,5 @@
 pub mod Asking
+pub mod Checking
 pub mod Clients
 pub mod Graph
 pub mod Kept
@@ -7,3 +8,4 @@ pub mod Report
 pub mod Rules
 pub mod Turns
 pub mod Ways
+pub mod WellFormed

@@ -1,6 +1,7 @@
 //! What a resolver finds from a domain on: every end once with its least derivation, or the least loop (RFC 3402).
 #![tactic(auto)]
 
+mod check;
 mod client;
 mod domain_edges;
 mod edge;
@@ -10,13 +11,19 @@ mod laws;
 mod output;
 mod report;
 mod rule_edge;
+mod rule_fault;
+mod rule_laws;
+mod scheme;
 mod uri;
 mod walker;
 mod walking;
 
+pub use check::check_rule;
 pub use fault::WalkFault;
 pub use laws::{
     all_needed, loop_needed, needed_bound, needed_count, one_loop, one_report, some_report,
 };
 pub use report::{End, Ends, LoopPath, Outcome, Report};
+pub use rule_fault::RuleFault;
+pub use rule_laws::{one_rule_fault, rule_or_fault};
 pub use walking::walk;

@@ -97,21 +97,22 @@ fn target_of<P: DddsApp>(client: &Client<'_, P>, letter: u8, rule: &Naptr) -> Op
     }
 }
 
-// Whether REGEXP alone is there.
-fn has_regexp(rule: &Naptr) -> bool
+/// Whether REGEXP alone is there.
+pub(crate) fn has_regexp(rule: &Naptr) -> bool
     ensures { IsTrue result ↔ HasRegexp rule.now }
 {
     !rule.regexp.as_bytes().is_empty() && is_root(rule.replacement)
 }
 
-// Whether REPLACEMENT alone is there.
-fn has_replacement(rule: &Naptr) -> bool
+/// Whether REPLACEMENT alone is there.
+pub(crate) fn has_replacement(rule: &Naptr) -> bool
     ensures { IsTrue result ↔ HasReplacement rule.now }
 {
     rule.regexp.as_bytes().is_empty() && !is_root(rule.replacement)
 }
 
-fn is_root(name: Name) -> bool
+/// Whether the name is the root.
+pub(crate) fn is_root(name: Name) -> bool
     ensures { IsTrue result ↔ (name ≡ []) }
 {
     name == Name::root()

@@ -14,8 +14,8 @@ pub(crate) fn is_uri(bytes: &[u8]) -> bool
     }
 }
 
-// The bytes before the first colon, and those after it.
-fn halves(bytes: &[u8]) -> Option<(&[u8], &[u8])>
+/// The bytes before the first colon, and those after it.
+pub(crate) fn halves(bytes: &[u8]) -> Option<(&[u8], &[u8])>
     ensures { MatchOption result (AllPass (λ b. not (b == 58)) bytes.now) (λ parts.
         (bytes.now ≡ parts.0.now ++ 58 ∷ parts.1.now) × AllPass (λ b. not (b == 58)) parts.0.now) }
 {
@@ -23,8 +23,8 @@ fn halves(bytes: &[u8]) -> Option<(&[u8], &[u8])>
     Some((&bytes[..colon], &bytes[colon + 1..]))
 }
 
-// Whether the bytes are a scheme (RFC 3986, section 3.1).
-fn is_scheme(bytes: &[u8]) -> bool
+/// Whether the bytes are a scheme (RFC 3986, section 3.1).
+pub(crate) fn is_scheme(bytes: &[u8]) -> bool
     ensures { IsTrue result ↔ ((first : ℕ) × (rest : List ℕ) × (bytes.now ≡ first ∷ rest)
         × (is_ascii_alphabetic first ≡ true) × AllPass is_scheme_byte rest) }
 {
