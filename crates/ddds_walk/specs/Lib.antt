@@ -3,6 +3,7 @@ pub mod Checking
 pub mod Clients
 pub mod Graph
 pub mod Kept
+pub mod Keys
 pub mod Order
 pub mod Report
 pub mod Rules
