@@ -11,6 +11,7 @@ pub mod Rooted
 pub mod Told
 pub mod Reporting
 pub mod Bound
+pub mod CheckLemmas
 pub mod OneReport
 pub mod Kept
 pub mod Standing

@@ -1,11 +1,11 @@
 //! Rules as provisioning takes them (RFC 3403, section 4.1).
-ghost use Rattle.std.specs.Prelude.{◌≡◌, ◌≢◌, ◌↔◌, ◌⊎◌, [], Some, Err, IsTrue, IfOk, MatchOption};
+ghost use Rattle.std.specs.Prelude.{◌≡◌, ◌≢◌, ◌↔◌, ◌⊎◌, [], Some, Err, true, IsTrue, IfOk, MatchOption};
 ghost use Rattle.std.specs.Result.{IfErr};
 ghost use Rattle.service_field.specs.declared.kind.Kind.TheVariants as Kind;
 ghost use Rattle.subst_expr.specs.Regexp.{IsWellFormed};
 ghost use Rattle.ddds_walk.specs.Checking.{HasUriForm, IsFaultOfRegexp, IsUriFault};
 ghost use Rattle.ddds_walk.specs.Rules.{HasFields};
-ghost use Rattle.ddds_walk.specs.WellFormed.{HasFault, HasGoodServices, IsFirstFault, IsWellFormedRule};
+ghost use Rattle.ddds_walk.specs.WellFormed.{HasFault, HasGoodServices, HasWhole, IsFirstFault, IsWellFormedRule};
 ghost use Rattle.ddds_walk.specs.declared.rule_fault.RuleFault.{RuleFault};
 ghost use Rattle.ddds_walk.specs.declared.rule_fault.RuleFault.TheVariants as RuleFault;
 
@@ -17,6 +17,7 @@ use naptr_data::Naptr;
 use service_field::{DddsApp, Kind, ServiceFault};
 use std::alloc::Global;
 use subst_expr::check;
+use subst_expr::laws::one_reading;
 
 /// Whether a rule is one that provisioning takes for the application: its flags are known, it has the field that they
 /// ask for, its services and its REGEXP are well formed, and where it gives a URI the output begins with a literal
@@ -42,6 +43,7 @@ fn checked<P: DddsApp>(alloc: Global, app: &P, rule: &Naptr) -> Result<(), RuleF
     ensures ok { IfOk result (λ _. IsWellFormedRule (P.meaning app.now) rule.now) }
     ensures err { IfErr result (λ fault. (fault ≡ RuleFault.Memory) ⊎ IsFirstFault (P.meaning app.now) rule.now fault) }
 {
+    one_reading();
     if let Some(fault) = field_fault(app, rule) {
         return Err(fault);
     }
@@ -113,10 +115,13 @@ fn check_regexp<P: DddsApp>(alloc: Global, app: &P, rule: &Naptr) -> Result<(), 
     ensures ok { IfOk result (λ _. (rule.now.regexp ≡ []) ⊎ IsWellFormed rule.now.regexp) }
     ensures err { IfErr result (IsFaultOfRegexp (P.meaning app.now) rule.now) }
 {
-    if !rule.regexp.as_bytes().is_empty() {
-        check(alloc, &rule.regexp)?;
+    if rule.regexp.as_bytes().is_empty() {
+        return Ok(());
     }
-    Ok(())
+    match check(alloc, &rule.regexp) {
+        Ok(()) => Ok(()),
+        Err(fault) => Err(RuleFault::from(fault)),
+    }
 }
 
 // What is wrong with the REGEXP of a rule that gives a URI.
@@ -129,10 +134,17 @@ fn uri_fault<P: DddsApp>(app: &P, rule: &Naptr) -> Option<RuleFault>
     if !has_scheme(&rule.regexp) {
         return Some(RuleFault::NoScheme);
     }
-    if app.strict_uri() && !has_whole(&rule.regexp) {
+    if lacks_whole(app, rule) {
         return Some(RuleFault::UriForm);
     }
     None
+}
+
+// Whether the application takes the whole string alone, and the expression does not take it.
+fn lacks_whole<P: DddsApp>(app: &P, rule: &Naptr) -> bool
+    ensures { IsTrue result ↔ (((P.meaning app.now).wants_whole ≡ true) × ¬ HasWhole rule.now.regexp) }
+{
+    app.strict_uri() && !has_whole(&rule.regexp)
 }
 
 // Whether the rule gives a URI.

@@ -1,5 +1,5 @@
 mod CutLemmas
-mod OneSplitLemmas
+pub mod OneSplitLemmas
 mod PieceLemmas
 mod SplitLemmas
 mod ExpandingLemmas
