@@ -11,7 +11,6 @@ pub mod Rooted
 pub mod Told
 pub mod Reporting
 pub mod Bound
-pub mod CheckLemmas
 pub mod OneReport
 pub mod Kept
 pub mod Standing
@@ -21,7 +20,6 @@ pub mod Sound
 pub mod Asks
 pub mod GiftLemmas
 pub mod FollowLemmas
-pub mod UriLemmas
 pub mod Entering
 pub mod Whole
 pub mod Deciding

@@ -1,5 +1,4 @@
 pub mod Asking
-pub mod Checking
 pub mod Clients
 pub mod Graph
 pub mod Kept
@@ -9,4 +8,3 @@ pub mod Report
 pub mod Rules
 pub mod Turns
 pub mod Ways
-pub mod WellFormed

@@ -2,7 +2,6 @@
 #![tactic(auto)]
 
 mod asked;
-mod check;
 mod client;
 mod derivation;
 mod domain;
@@ -14,19 +13,13 @@ mod laws;
 mod output;
 mod report;
 mod rule_edge;
-mod rule_fault;
-mod rule_laws;
-mod scheme;
-mod uri;
 mod walker;
 mod walking;
 
-pub use check::check_rule;
 pub use fault::WalkFault;
 pub use laws::{
     all_needed, loop_needed, needed_bound, needed_count, one_loop, one_report, some_report,
 };
 pub use report::{End, Ends, LoopPath, Outcome, Report};
-pub use rule_fault::RuleFault;
-pub use rule_laws::{one_rule_fault, rule_or_fault};
+pub use rule_check::{RuleFault, check_rule, one_rule_fault, rule_or_fault};
 pub use walking::walk;

@@ -1,8 +1,0 @@
-mod CutLemmas
-pub mod OneSplitLemmas
-mod PieceLemmas
-mod SplitLemmas
-mod ExpandingLemmas
-mod OneAnswerLemmas
-mod EachAnswerLemmas
-mod SomeOutputLemmas

@@ -8,9 +8,9 @@ use Rattle.subst_expr.specs.Regexp.{IsRegexpFault}
 use Rattle.subst_expr.specs.Replacement.{is_group_digit}
 use Rattle.subst_expr.specs.declared.regexp.RegexpFault.{RegexpFault}
 use Rattle.subst_expr.specs.declared.regexp.RegexpFault.TheVariants as regexp
-use Rattle.ddds_walk.specs.WellFormed.{HasFault, HasScheme, HasWhole}
-use Rattle.ddds_walk.specs.declared.rule_fault.RuleFault.{RuleFault}
-use Rattle.ddds_walk.specs.declared.rule_fault.RuleFault.TheVariants as fault
+use Rattle.rule_check.specs.WellFormed.{HasFault, HasScheme, HasWhole}
+use Rattle.rule_check.specs.declared.fault.RuleFault.{RuleFault}
+use Rattle.rule_check.specs.declared.fault.RuleFault.TheVariants as fault
 
 -- the fault of a rule that a fault of its REGEXP is
 abbrev pub of_regexp : RegexpFault → RuleFault

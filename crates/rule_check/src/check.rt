@@ -3,17 +3,17 @@ ghost use Rattle.std.specs.Prelude.{◌≡◌, ◌≢◌, ◌↔◌, ◌⊎◌, 
 ghost use Rattle.std.specs.Result.{IfErr};
 ghost use Rattle.service_field.specs.declared.kind.Kind.TheVariants as Kind;
 ghost use Rattle.subst_expr.specs.Regexp.{IsWellFormed};
-ghost use Rattle.ddds_walk.specs.Checking.{HasUriForm, IsFaultOfRegexp, IsUriFault};
-ghost use Rattle.ddds_walk.specs.Rules.{HasFields};
-ghost use Rattle.ddds_walk.specs.WellFormed.{HasFault, HasGoodServices, HasWhole, IsFirstFault, IsWellFormedRule};
-ghost use Rattle.ddds_walk.specs.declared.rule_fault.RuleFault.{RuleFault};
-ghost use Rattle.ddds_walk.specs.declared.rule_fault.RuleFault.TheVariants as RuleFault;
+ghost use Rattle.rule_check.specs.Checking.{HasUriForm, IsFaultOfRegexp, IsUriFault};
+ghost use Rattle.rule_check.specs.Fields.{HasFields};
+ghost use Rattle.rule_check.specs.WellFormed.{HasFault, HasGoodServices, HasWhole, IsFirstFault, IsWellFormedRule};
+ghost use Rattle.rule_check.specs.declared.fault.RuleFault.{RuleFault};
+ghost use Rattle.rule_check.specs.declared.fault.RuleFault.TheVariants as RuleFault;
 
-use crate::rule_edge::{has_regexp, has_replacement, is_root};
-use crate::rule_fault::RuleFault;
-use crate::rule_laws::one_rule_fault;
+use crate::fault::RuleFault;
+use crate::fields::{has_regexp, has_replacement, is_root};
+use crate::laws::one_rule_fault;
 use crate::scheme::{has_scheme, has_whole};
-use naptr_data::Naptr;
+use naptr_rule::Naptr;
 use service_field::{DddsApp, Kind, ServiceFault};
 use std::alloc::Global;
 use subst_expr::check;
@@ -128,7 +128,7 @@ fn check_regexp<P: DddsApp>(alloc: Global, app: &P, rule: &Naptr) -> Result<(), 
 fn uri_fault<P: DddsApp>(app: &P, rule: &Naptr) -> Option<RuleFault>
     ensures { MatchOption result (HasUriForm (P.meaning app.now) rule.now) (IsUriFault (P.meaning app.now) rule.now) }
 {
-    if !is_uri(app, rule) {
+    if !gives_uri(app, rule) {
         return None;
     }
     if !has_scheme(&rule.regexp) {
@@ -148,7 +148,7 @@ fn lacks_whole<P: DddsApp>(app: &P, rule: &Naptr) -> bool
 }
 
 // Whether the rule gives a URI.
-fn is_uri<P: DddsApp>(app: &P, rule: &Naptr) -> bool
+fn gives_uri<P: DddsApp>(app: &P, rule: &Naptr) -> bool
     ensures { IsTrue result ↔ ((P.meaning app.now).kind rule.now.flags ≡ Kind.TerminalUri) }
 {
     matches!(app.kind(&rule.flags), Kind::TerminalUri)

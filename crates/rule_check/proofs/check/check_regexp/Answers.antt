@@ -1,7 +1,7 @@
 use Rattle.std.proofs.Common.{rules, subst, sym}
-use Rattle.ddds_walk.specs.Checking.{IsFaultOfRegexp}
-use Rattle.ddds_walk.proofs.CheckLemmas.{regexp_err}
-use Rattle.ddds_walk.proofs.check.check_regexp.Goals as goal
+use Rattle.rule_check.specs.Checking.{IsFaultOfRegexp}
+use Rattle.rule_check.proofs.CheckLemmas.{regexp_err}
+use Rattle.rule_check.proofs.check.check_regexp.Goals as goal
 
 pub returns-in-Err-clause-err : goal.returns-in-Err-clause-err
 returns-in-Err-clause-err g c =

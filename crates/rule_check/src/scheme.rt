@@ -1,17 +1,19 @@
 //! What provisioning asks of the REGEXP of a rule that gives a URI.
 ghost use Rattle.std.specs.Prelude.{◌≡◌, ◌↔◌, ◌≤◌, ◌==◌, ◌&&◌, ◌⊎◌, not, false, length, IsTrue};
 ghost use Rattle.subst_expr.specs.Pieces.{backslash};
-ghost use Rattle.ddds_walk.specs.Checking.{literal_from};
-ghost use Rattle.ddds_walk.specs.WellFormed.{BeginsWithScheme, GivesScheme, HasScheme, HasWhole, TakesWhole};
+ghost use Rattle.rule_check.specs.Checking.{literal_from};
+ghost use Rattle.rule_check.specs.WellFormed.{BeginsWithScheme, GivesScheme, HasScheme, HasWhole, TakesWhole};
 
 use crate::uri::{halves, is_scheme};
 use enum_base::{Buffer, Text255};
 use subst_expr::Subst;
+use subst_expr::laws::split_has_pieces;
 
 /// Whether the replacement begins with a scheme and a colon as literal text.
 pub(crate) fn has_scheme(regexp: &Text255) -> bool
     ensures { IsTrue result ↔ HasScheme regexp.now }
 {
+    split_has_pieces();
     match Subst::split(regexp) {
         Ok(subst) => gives_scheme(&subst),
         Err(_) => false,

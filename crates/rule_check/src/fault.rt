@@ -1,6 +1,6 @@
 //! Why provisioning refuses a rule.
 ghost use Rattle.std.specs.Prelude.{◌≡◌};
-ghost use Rattle.ddds_walk.specs.Checking.{of_regexp};
+ghost use Rattle.rule_check.specs.Checking.{of_regexp};
 
 use service_field::ServiceFault;
 use subst_expr::RegexpFault;

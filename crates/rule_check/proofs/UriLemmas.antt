@@ -4,7 +4,7 @@ use Rattle.std.specs.Char.{is_ascii_alphabetic}
 use Rattle.std.specs.List.{AllPass, list_all}
 use Rattle.std.proofs.lemmas.Bool.{eqb-true}
 use Rattle.std.proofs.lemmas.List.Sums.{list_all-from_AllPass}
-use Rattle.ddds_walk.specs.Rules.{IsUri, is_scheme_byte, is_visible}
+use Rattle.rule_check.specs.Uris.{IsScheme, IsUri, is_scheme_byte, is_visible}
 
 -- a byte that is no colon
 abbrev plain : ℕ → Bool
@@ -55,10 +55,7 @@ one_cut (x ∷ xs) ys (u ∷ us) vs p q e =
     let cut : (xs ≡ us) × (ys ≡ vs) = one_cut xs ys us vs (both_true (plain x) (list_all plain xs) p).1 (both_true (plain u) (list_all plain us) q).1 rest in
     (cc, cut.1)
 
--- what stands before the colon, and what stands after it
-abbrev pub IsScheme : List ℕ → Type 0
-IsScheme bytes = (first : ℕ) × (rest : List ℕ) × (bytes ≡ first ∷ rest) × (is_ascii_alphabetic first ≡ true) × AllPass is_scheme_byte rest
-
+-- what stands after the colon
 abbrev pub IsRest : List ℕ → Type 0
 IsRest bytes = (0 < length bytes) × AllPass is_visible bytes
 

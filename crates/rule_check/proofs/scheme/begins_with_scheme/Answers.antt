@@ -1,5 +1,5 @@
-use Rattle.ddds_walk.proofs.CheckLemmas.{scheme_cut, scheme_none}
-use Rattle.ddds_walk.proofs.scheme.begins_with_scheme.Goals as goal
+use Rattle.rule_check.proofs.CheckLemmas.{scheme_cut, scheme_none}
+use Rattle.rule_check.proofs.scheme.begins_with_scheme.Goals as goal
 
 pub returns-in-Some : goal.returns-in-Some
 returns-in-Some c =

@@ -9,21 +9,21 @@ use Rattle.subst_expr.specs.Pieces.{Piece, Plain, Pair, backslash, spelled, IsPa
 use Rattle.subst_expr.specs.Regexp.{IsRegexpFault, IsWellFormed}
 use Rattle.subst_expr.specs.Replacement.{HasPieces, is_group_digit}
 use Rattle.subst_expr.specs.Split.{Splits}
-use Rattle.subst_expr.specs.Laws.{WellFormedHasNoFault}
+use Rattle.subst_expr.specs.Laws.{SplitHasPieces, WellFormedHasNoFault}
 use Rattle.subst_expr.specs.declared.subst.Subst.{Subst}
 use Rattle.subst_expr.specs.declared.subst.SubstFault.{SubstFault}
 use Rattle.subst_expr.specs.declared.regexp.RegexpFault.{RegexpFault}
 use Rattle.subst_expr.specs.declared.regexp.RegexpFault.TheVariants as regexp
-use Rattle.subst_expr.proofs.OneSplitLemmas.{split_pieces}
 use Rattle.service_field.specs.declared.fault.ServiceFault.{ServiceFault}
 use Rattle.service_field.specs.declared.kind.Kind.{Kind}
 use Rattle.service_field.specs.declared.kind.Kind.TheVariants as kind
-use Rattle.ddds_walk.specs.Checking.{IsFaultOfRegexp, IsUriFault, literal_from, of_regexp}
-use Rattle.ddds_walk.specs.Rules.{HasFields, HasRegexp, HasReplacement}
-use Rattle.ddds_walk.specs.WellFormed.{BeginsWithScheme, GivesScheme, HasFault, HasGoodServices, HasScheme, IsFirstFault, IsScheme, literal_front, number}
-use Rattle.ddds_walk.specs.declared.rule_fault.RuleFault.{RuleFault}
-use Rattle.ddds_walk.specs.declared.rule_fault.RuleFault.TheVariants as fault
-use Rattle.ddds_walk.proofs.UriLemmas.{no_colon, one_cut, scheme_plain}
+use Rattle.rule_check.specs.Checking.{IsFaultOfRegexp, IsUriFault, literal_from, of_regexp}
+use Rattle.rule_check.specs.Fields.{HasFields, HasRegexp, HasReplacement}
+use Rattle.rule_check.specs.Uris.{IsScheme}
+use Rattle.rule_check.specs.WellFormed.{BeginsWithScheme, GivesScheme, HasFault, HasGoodServices, HasScheme, IsFirstFault, literal_front, number}
+use Rattle.rule_check.specs.declared.fault.RuleFault.{RuleFault}
+use Rattle.rule_check.specs.declared.fault.RuleFault.TheVariants as fault
+use Rattle.rule_check.proofs.UriLemmas.{no_colon, one_cut, scheme_plain}
 
 abbrev plain : ℕ → Bool
 plain b = not (b == 58)
@@ -52,8 +52,8 @@ literal_of : (s : Subst) (pieces : List Piece) → HasPieces s pieces → litera
 literal_of s pieces h = ap (λ b. literal_from false b) h.spelt ∙ literal_spelled s.delim pieces h.part
 
 -- a split gives a scheme where the literal text of its bytes begins with one
-pub scheme_told : (text : List ℕ) (s : Subst) → Splits text (Ok s) → BeginsWithScheme (literal_from false s.repl) → HasScheme text
-scheme_told text s split begins = by (split_pieces text s split)
+pub scheme_told : SplitHasPieces → (text : List ℕ) (s : Subst) → Splits text (Ok s) → BeginsWithScheme (literal_from false s.repl) → HasScheme text
+scheme_told pieces_of text s split begins = by (pieces_of text s split)
   where
     by : ((pieces : List Piece) × HasPieces s pieces) → HasScheme text
     by (pieces, h) = (s, split, (pieces, h, subst (λ t. BeginsWithScheme t) (literal_of s pieces h) begins))
@@ -66,9 +66,9 @@ same_of : (s r : Subst) → Ok {A = Subst} {E = SubstFault} s ≡ Ok r → s ≡
 same_of s r e = cc
 
 -- .. and nowhere else
-pub scheme_iff : (text : List ℕ) (s : Subst) (t : Bool) → Splits text (Ok s) → ((other : Result Subst SubstFault) → Splits text other → Ok s ≡ other)
+pub scheme_iff : SplitHasPieces → (text : List ℕ) (s : Subst) (t : Bool) → Splits text (Ok s) → ((other : Result Subst SubstFault) → Splits text other → Ok s ≡ other)
     → (IsTrue t ↔ BeginsWithScheme (literal_from false s.repl)) → IsTrue t ↔ HasScheme text
-scheme_iff text s t split only iff = (λ h. scheme_told text s split (iff.0 h), back)
+scheme_iff pieces_of text s t split only iff = (λ h. scheme_told pieces_of text s split (iff.0 h), back)
   where
     back : HasScheme text → IsTrue t
     back (r, other, gives) = iff.1 (scheme_there s r (same_of s r (only (Ok r) other)) gives)

@@ -1,8 +1,6 @@
 -- Which rules provisioning takes, and the first fault of the others (RFC 3403, section 4.1; RFC 4848, section 2.2; that a
 -- REGEXP that gives a URI begins its output with a literal scheme, and the order of the faults, are this project's own).
 use Rattle.std.specs.Prelude.{◌≡◌, ◌≢◌, ◌⊎◌, ℕ, ◌<◌, true, if◌then◌else◌, List, [], ◌∷◌, ◌++◌, codes, Option, Some, None, Ok}
-use Rattle.std.specs.Char.{is_ascii_alphabetic}
-use Rattle.std.specs.List.{AllPass}
 use Rattle.naptr_rule.specs.declared.rule.Naptr.{Naptr}
 use Rattle.service_field.specs.Applications.{Meaning}
 use Rattle.service_field.specs.declared.kind.Kind.TheVariants as kind
@@ -13,19 +11,16 @@ use Rattle.subst_expr.specs.Split.{Splits}
 use Rattle.subst_expr.specs.declared.regexp.RegexpFault.{RegexpFault}
 use Rattle.subst_expr.specs.declared.regexp.RegexpFault.TheVariants as regexp
 use Rattle.subst_expr.specs.declared.subst.Subst.{Subst}
-use Rattle.ddds_walk.specs.Rules.{HasFields, is_scheme_byte}
-use Rattle.ddds_walk.specs.declared.rule_fault.RuleFault.{RuleFault}
-use Rattle.ddds_walk.specs.declared.rule_fault.RuleFault.TheVariants as fault
+use Rattle.rule_check.specs.Fields.{HasFields}
+use Rattle.rule_check.specs.Uris.{IsScheme}
+use Rattle.rule_check.specs.declared.fault.RuleFault.{RuleFault}
+use Rattle.rule_check.specs.declared.fault.RuleFault.TheVariants as fault
 
 -- the literal text that a replacement begins with, up to its first back reference; an escaped byte stands for itself
 abbrev pub literal_front : List Piece → List ℕ
 literal_front [] = []
 literal_front (Plain b ∷ pieces) = b ∷ literal_front pieces
 literal_front (Pair b ∷ pieces) = if is_group_digit b then [] else b ∷ literal_front pieces
-
--- a scheme: a letter, then letters, digits, `+`, `-` or `.` (RFC 3986, 3.1)
-abbrev pub IsScheme : List ℕ → Type 0
-IsScheme bytes = (first : ℕ) × (rest : List ℕ) × (bytes ≡ first ∷ rest) × (is_ascii_alphabetic first ≡ true) × AllPass is_scheme_byte rest
 
 -- a text begins with a scheme and a colon
 abbrev pub BeginsWithScheme : List ℕ → Type 0

@@ -1,5 +1,5 @@
 //! Laws of well-formed rules, each the contract of a function that does nothing.
-ghost use Rattle.ddds_walk.specs.WellFormed.{OneRuleFault, WellFormedHasNoRuleFault, WellFormedOrFault};
+ghost use Rattle.rule_check.specs.WellFormed.{OneRuleFault, WellFormedHasNoRuleFault, WellFormedOrFault};
 
 use subst_expr::laws::{one_fault, one_reading, one_split, output_or_none};
 

@@ -1,6 +1,6 @@
 use Rattle.std.proofs.Common.{◌≡◌, ◌≤◌, ◌++◌, false, drop, length}
-use Rattle.ddds_walk.specs.Checking.{literal_from}
-use Rattle.ddds_walk.proofs.scheme.literal_front.Given as goal
+use Rattle.rule_check.specs.Checking.{literal_from}
+use Rattle.rule_check.proofs.scheme.literal_front.Given as goal
 
 -- the text has what the bytes so far give
 abbrev pub invariant-loop-b : goal.invariant-loop-b

@@ -1,6 +1,6 @@
 use Rattle.std.proofs.Common.{inr}
-use Rattle.ddds_walk.proofs.CheckLemmas.{uri_first}
-use Rattle.ddds_walk.proofs.check.checked.Goals as goal
+use Rattle.rule_check.proofs.CheckLemmas.{uri_first}
+use Rattle.rule_check.proofs.check.checked.Goals as goal
 
 pub returns-in-Some-uri_fault-clause-err : goal.returns-in-Some-uri_fault-clause-err
 returns-in-Some-uri_fault-clause-err g c =

@@ -1,0 +1,3 @@
+pub mod UriLemmas
+pub mod Deciding
+pub mod CheckLemmas
