@@ -58,11 +58,11 @@ scheme_told pieces_of text s split begins = by (pieces_of text s split)
     by : ((pieces : List Piece) × HasPieces s pieces) → HasScheme text
     by (pieces, h) = (s, split, (pieces, h, subst (λ t. BeginsWithScheme t) (literal_of s pieces h) begins))
 
-scheme_there : (s r : Subst) → s ≡ r → GivesScheme r → BeginsWithScheme (literal_from false s.repl)
+pub scheme_there : (s r : Subst) → s ≡ r → GivesScheme r → BeginsWithScheme (literal_from false s.repl)
 scheme_there s r same (pieces, h, begins) =
     subst (λ t. BeginsWithScheme (literal_from false t.repl)) (sym same) (subst (λ t. BeginsWithScheme t) (sym (literal_of r pieces h)) begins)
 
-same_of : (s r : Subst) → Ok {A = Subst} {E = SubstFault} s ≡ Ok r → s ≡ r
+pub same_of : (s r : Subst) → Ok {A = Subst} {E = SubstFault} s ≡ Ok r → s ≡ r
 same_of s r e = cc
 
 -- .. and nowhere else
@@ -108,31 +108,30 @@ good_regexp : WellFormedHasNoFault → (m : Meaning) (rule : Naptr) → (rule.re
 good_regexp law m rule (inl none) why (some, other, h) = some none
 good_regexp law m rule (inr formed) why (some, other, h) = other (law rule.regexp why formed h)
 
--- a rule that passes all tests but those of its URI has none of the faults before these
-no_earlier : WellFormedHasNoFault → (m : Meaning) (rule : Naptr) → HasFields (m.kind rule.flags) m.steps_by_regexp rule → HasGoodServices m rule
-    → (rule.regexp ≡ []) ⊎ IsWellFormed rule.regexp → (e : RuleFault) → number e < 7 → HasFault m rule e → ⊥
-no_earlier law m rule fields services regexp fault.UnknownFlags less h = subst (λ k. HasFields k m.steps_by_regexp rule) h fields
-no_earlier law m rule fields services regexp fault.BothFields less h = not_both m rule (one_field (m.kind rule.flags) m.steps_by_regexp rule fields) h
-no_earlier law m rule fields services regexp fault.NoField less h = not_none m rule (one_field (m.kind rule.flags) m.steps_by_regexp rule fields) h
-no_earlier law m rule fields services regexp fault.WrongField less h = h fields
-no_earlier law m rule fields services regexp (fault.Services why) less h = good_services m rule services why h
-no_earlier law m rule fields services regexp (fault.Regexp why) less h = good_regexp law m rule regexp why h
-no_earlier law m rule fields services regexp fault.NoScheme less h = absurd (omega (arith, less))
-no_earlier law m rule fields services regexp fault.UriForm less h = absurd (omega (arith, less))
-no_earlier law m rule fields services regexp fault.Memory less h = h
+-- a rule that passes the first tests has none of the faults before those of its services, of its REGEXP, and of its URI
+pub before_services : (m : Meaning) (rule : Naptr) → HasFields (m.kind rule.flags) m.steps_by_regexp rule
+    → (e : RuleFault) → number e < 5 → HasFault m rule e → ⊥
+before_services m rule fields fault.UnknownFlags less h = subst (λ k. HasFields k m.steps_by_regexp rule) h fields
+before_services m rule fields fault.BothFields less h = not_both m rule (one_field (m.kind rule.flags) m.steps_by_regexp rule fields) h
+before_services m rule fields fault.NoField less h = not_none m rule (one_field (m.kind rule.flags) m.steps_by_regexp rule fields) h
+before_services m rule fields fault.WrongField less h = h fields
+before_services m rule fields e less h = absurd (omega (arith, less))
 
--- and none before the second of these where it has not the first
+pub before_regexp : (m : Meaning) (rule : Naptr) → HasFields (m.kind rule.flags) m.steps_by_regexp rule → HasGoodServices m rule
+    → (e : RuleFault) → number e < 6 → HasFault m rule e → ⊥
+before_regexp m rule fields services (fault.Services why) less h = good_services m rule services why h
+before_regexp m rule fields services e less h = before_services m rule fields e (omega (arith, less)) h
+
+pub no_earlier : WellFormedHasNoFault → (m : Meaning) (rule : Naptr) → HasFields (m.kind rule.flags) m.steps_by_regexp rule
+    → HasGoodServices m rule → (rule.regexp ≡ []) ⊎ IsWellFormed rule.regexp → (e : RuleFault) → number e < 7 → HasFault m rule e → ⊥
+no_earlier law m rule fields services regexp (fault.Regexp why) less h = good_regexp law m rule regexp why h
+no_earlier law m rule fields services regexp e less h = before_regexp m rule fields services e (omega (arith, less)) h
+
+-- and none before the second of its URI where it has not the first
 no_earlier_but : (m : Meaning) (rule : Naptr) → ((e : RuleFault) → number e < 7 → HasFault m rule e → ⊥) → (HasFault m rule fault.NoScheme → ⊥)
     → (e : RuleFault) → number e < 8 → HasFault m rule e → ⊥
-no_earlier_but m rule none one fault.UnknownFlags less h = none fault.UnknownFlags (omega arith) h
-no_earlier_but m rule none one fault.BothFields less h = none fault.BothFields (omega arith) h
-no_earlier_but m rule none one fault.NoField less h = none fault.NoField (omega arith) h
-no_earlier_but m rule none one fault.WrongField less h = none fault.WrongField (omega arith) h
-no_earlier_but m rule none one (fault.Services why) less h = none (fault.Services why) (omega arith) h
-no_earlier_but m rule none one (fault.Regexp why) less h = none (fault.Regexp why) (omega arith) h
 no_earlier_but m rule none one fault.NoScheme less h = one h
-no_earlier_but m rule none one fault.UriForm less h = absurd (omega (arith, less))
-no_earlier_but m rule none one fault.Memory less h = h
+no_earlier_but m rule none one e less h = none e (omega (arith, less)) h
 
 pub uri_first : WellFormedHasNoFault → (m : Meaning) (rule : Naptr) (f : RuleFault) → HasFields (m.kind rule.flags) m.steps_by_regexp rule
     → HasGoodServices m rule → (rule.regexp ≡ []) ⊎ IsWellFormed rule.regexp → IsUriFault m rule f → IsFirstFault m rule f
