@@ -62,7 +62,7 @@ pub scheme_there : (s r : Subst) → s ≡ r → GivesScheme r → BeginsWithSch
 scheme_there s r same (pieces, h, begins) =
     subst (λ t. BeginsWithScheme (literal_from false t.repl)) (sym same) (subst (λ t. BeginsWithScheme t) (sym (literal_of r pieces h)) begins)
 
-pub same_of : (s r : Subst) → Ok {A = Subst} {E = SubstFault} s ≡ Ok r → s ≡ r
+pub same_of : (s r : Subst) → ◌≡◌ {A = Result Subst SubstFault} (Ok s) (Ok r) → s ≡ r
 same_of s r e = cc
 
 -- .. and nowhere else

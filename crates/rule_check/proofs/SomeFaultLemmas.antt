@@ -50,6 +50,7 @@ fields_or_not kind.Unknown by_regexp rule = inr (λ h. h)
 -- the first fault of a rule that has not the field that its flags ask for
 module _ (m : Meaning) (rule : Naptr) where
   none_before : (e : RuleFault) → number e < 1 → HasFault m rule e → ⊥
+  none_before fault.UnknownFlags less h = absurd (omega (arith, less))
   none_before e less h = absurd (omega (arith, less))
 
   known_before : (HasFault m rule fault.UnknownFlags → ⊥) → (e : RuleFault) → number e < 2 → HasFault m rule e → ⊥
@@ -101,7 +102,7 @@ module _ (m : Meaning) (rule : Naptr) where
           → HasGoodServices m rule ⊎ ((why : ServiceFault) × HasFault m rule (fault.Services why))
       by None e step = inl (inl e)
       by (Some why) e (inl step) = inl (inr step)
-      by (Some why) e (inr other) = inr (why, e, other)
+      by (Some why) e (inr other) = inr (why, (e, other))
 
   regexp_or_fault : FormedOrFault → ((rule.regexp ≡ []) ⊎ IsWellFormed rule.regexp) ⊎ ((why : RegexpFault) × HasFault m rule (fault.Regexp why))
   regexp_or_fault formed = by (is_empty rule.regexp) (formed rule.regexp)
@@ -110,7 +111,7 @@ module _ (m : Meaning) (rule : Naptr) where
           → ((rule.regexp ≡ []) ⊎ IsWellFormed rule.regexp) ⊎ ((why : RegexpFault) × HasFault m rule (fault.Regexp why))
       by (inl none) h = inl (inl none)
       by (inr some) (inl h) = inl (inr h)
-      by (inr some) (inr (why, other, h)) = inr (why, some, other, h)
+      by (inr some) (inr (why, other, h)) = inr (why, (some, other, h))
 
 begins_or_not : (text : List ℕ) → Either (BeginsWithScheme text)
 begins_or_not text = by (cut_or_plain text)
@@ -145,7 +146,7 @@ module _ (one : OneSplit) (pieces : SplitHasPieces) (m : Meaning) (rule : Naptr)
 
   uri_of_form : m.kind rule.flags ≡ kind.TerminalUri → Either (HasScheme rule.regexp) → Either (m.wants_whole ≡ true)
       → Either (HasWhole rule.regexp) → UriAnswer
-  uri_of_form is (inr none) strict whole = inr (fault.NoScheme, inl (refl, is, none))
+  uri_of_form is (inr none) strict whole = inr (fault.NoScheme, inl (refl, (is, none)))
   uri_of_form is (inl scheme) (inr free) whole = inl (record { scheme = λ e. scheme; whole = λ e w. absurd (free w) })
   uri_of_form is (inl scheme) (inl strict) (inl whole) = inl (record { scheme = λ e. scheme; whole = λ e w. whole })
   uri_of_form is (inl scheme) (inl strict) (inr none) = inr (fault.UriForm, inr (refl, (λ h. h.1 scheme), (strict, is, none)))
@@ -164,29 +165,29 @@ module _ (one : OneSplit) (pieces : SplitHasPieces) (m : Meaning) (rule : Naptr)
       by (inr (s, t, (tree, groups))) (inl is) = uri_of_form is (scheme_of_split one pieces rule.regexp s tree.splits)
           (is_true m.wants_whole) (whole_of_split one rule.regexp s tree.splits)
 
+abbrev Answer : Meaning → Naptr → Type 0
+Answer m rule = IsWellFormedRule m rule ⊎ ((f : RuleFault) × IsFirstFault m rule f)
+
 pub rule_or_fault : OneSplit → SplitHasPieces → FormedOrFault → WellFormedHasNoFault → WellFormedOrFault
 rule_or_fault one pieces formed law m rule = by (fields_or_not (m.kind rule.flags) m.steps_by_regexp rule)
   where
-    abbrev Answer : Type 0
-    Answer = IsWellFormedRule m rule ⊎ ((f : RuleFault) × IsFirstFault m rule f)
-
     by_uri : HasFields (m.kind rule.flags) m.steps_by_regexp rule → HasGoodServices m rule → (rule.regexp ≡ []) ⊎ IsWellFormed rule.regexp
-        → HasUriForm m rule ⊎ ((f : RuleFault) × IsUriFault m rule f) → Answer
+        → HasUriForm m rule ⊎ ((f : RuleFault) × IsUriFault m rule f) → Answer m rule
     by_uri fields services regexp (inl h) =
         inl (record { fields = fields; services = services; regexp = regexp; scheme = h.scheme; whole = h.whole })
     by_uri fields services regexp (inr (f, h)) = inr (f, uri_first law m rule f fields services regexp h)
 
     by_regexp : HasFields (m.kind rule.flags) m.steps_by_regexp rule → HasGoodServices m rule
-        → ((rule.regexp ≡ []) ⊎ IsWellFormed rule.regexp) ⊎ ((why : RegexpFault) × HasFault m rule (fault.Regexp why)) → Answer
+        → ((rule.regexp ≡ []) ⊎ IsWellFormed rule.regexp) ⊎ ((why : RegexpFault) × HasFault m rule (fault.Regexp why)) → Answer m rule
     by_regexp fields services (inl regexp) = by_uri fields services regexp (uri_or_fault one pieces m rule fields regexp)
     by_regexp fields services (inr (why, h)) =
         inr (fault.Regexp why, record { here = h; first = before_regexp m rule fields services })
 
     by_services : HasFields (m.kind rule.flags) m.steps_by_regexp rule
-        → HasGoodServices m rule ⊎ ((why : ServiceFault) × HasFault m rule (fault.Services why)) → Answer
+        → HasGoodServices m rule ⊎ ((why : ServiceFault) × HasFault m rule (fault.Services why)) → Answer m rule
     by_services fields (inl services) = by_regexp fields services (regexp_or_fault m rule formed)
     by_services fields (inr (why, h)) = inr (fault.Services why, record { here = h; first = before_services m rule fields })
 
-    by : Either (HasFields (m.kind rule.flags) m.steps_by_regexp rule) → Answer
+    by : Either (HasFields (m.kind rule.flags) m.steps_by_regexp rule) → Answer m rule
     by (inl fields) = by_services fields (services_or_fault m rule)
     by (inr wrong) = inr (first_of_fields m rule wrong)

@@ -1,5 +1,5 @@
 //! Rules as provisioning takes them (RFC 3403, section 4.1).
-ghost use Rattle.std.specs.Prelude.{◌≡◌, ◌≢◌, ◌↔◌, ◌⊎◌, [], Some, Err, true, IsTrue, IfOk, MatchOption};
+ghost use Rattle.std.specs.Prelude.{◌≡◌, ◌≢◌, ◌↔◌, ◌⊎◌, [], Some, Err, true, false, IsTrue, IfOk, MatchOption};
 ghost use Rattle.std.specs.Result.{IfErr};
 ghost use Rattle.service_field.specs.declared.kind.Kind.TheVariants as Kind;
 ghost use Rattle.subst_expr.specs.Regexp.{IsWellFormed};
@@ -134,17 +134,18 @@ fn uri_fault<P: DddsApp>(app: &P, rule: &Naptr) -> Option<RuleFault>
     if !has_scheme(&rule.regexp) {
         return Some(RuleFault::NoScheme);
     }
-    if lacks_whole(app, rule) {
+    if !takes_form(app, rule) {
         return Some(RuleFault::UriForm);
     }
     None
 }
 
-// Whether the application takes the whole string alone, and the expression does not take it.
-fn lacks_whole<P: DddsApp>(app: &P, rule: &Naptr) -> bool
-    ensures { IsTrue result ↔ (((P.meaning app.now).wants_whole ≡ true) × ¬ HasWhole rule.now.regexp) }
+// Whether the application takes the expression of a URI rule: where it takes the whole string alone, only one of these.
+fn takes_form<P: DddsApp>(app: &P, rule: &Naptr) -> bool
+    ensures taken { IsTrue result → (P.meaning app.now).wants_whole ≡ true → HasWhole rule.now.regexp }
+    ensures refused { result ≡ false → ((P.meaning app.now).wants_whole ≡ true) × ¬ HasWhole rule.now.regexp }
 {
-    app.strict_uri() && !has_whole(&rule.regexp)
+    !app.strict_uri() || has_whole(&rule.regexp)
 }
 
 // Whether the rule gives a URI.
