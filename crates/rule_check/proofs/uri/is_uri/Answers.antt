@@ -1,6 +1,7 @@
 use Rattle.std.proofs.Common.{rules}
-use Rattle.ddds_walk.proofs.UriLemmas.{IsScheme, uri_cut, uri_made, uri_none}
-use Rattle.ddds_walk.proofs.uri.is_uri.Goals as goal
+use Rattle.rule_check.specs.Uris.{IsScheme}
+use Rattle.rule_check.proofs.UriLemmas.{uri_cut, uri_made, uri_none}
+use Rattle.rule_check.proofs.uri.is_uri.Goals as goal
 
 pub returns-then-is_scheme : goal.returns-then-is_scheme
 returns-then-is_scheme c =

@@ -4,7 +4,7 @@ use Rattle.std.specs.Char.{is_ascii_alphabetic}
 use Rattle.std.specs.List.{AllPass, list_all}
 use Rattle.std.proofs.lemmas.Bool.{eqb-true}
 use Rattle.std.proofs.lemmas.List.Sums.{list_all-from_AllPass}
-use Rattle.ddds_walk.specs.Rules.{IsUri, is_scheme_byte, is_visible}
+use Rattle.rule_check.specs.Uris.{IsScheme, IsUri, is_scheme_byte, is_visible}
 
 -- a byte that is no colon
 abbrev plain : ℕ → Bool
@@ -36,12 +36,12 @@ all_plain (b ∷ bytes) h =
     and_true (plain b) (list_all plain bytes) (apart is_scheme_byte refl b parts.0) (all_plain bytes parts.1)
 
 -- bytes with a colon among them are not free of it
-no_colon : (xs ys : List ℕ) → list_all plain (xs ++ 58 ∷ ys) ≡ true → ⊥
+pub no_colon : (xs ys : List ℕ) → list_all plain (xs ++ 58 ∷ ys) ≡ true → ⊥
 no_colon [] ys h = cc
 no_colon (x ∷ xs) ys h = no_colon xs ys (both_true (plain x) (list_all plain (xs ++ 58 ∷ ys)) h).1
 
 -- bytes are cut at their first colon in one way
-one_cut : (xs ys us vs : List ℕ) → list_all plain xs ≡ true → list_all plain us ≡ true → xs ++ 58 ∷ ys ≡ us ++ 58 ∷ vs → (xs ≡ us) × (ys ≡ vs)
+pub one_cut : (xs ys us vs : List ℕ) → list_all plain xs ≡ true → list_all plain us ≡ true → xs ++ 58 ∷ ys ≡ us ++ 58 ∷ vs → (xs ≡ us) × (ys ≡ vs)
 one_cut [] ys [] vs p q e = (refl, cc)
 one_cut [] ys (u ∷ us) vs p q e =
     let same : u ≡ 58 = cc in
@@ -55,14 +55,11 @@ one_cut (x ∷ xs) ys (u ∷ us) vs p q e =
     let cut : (xs ≡ us) × (ys ≡ vs) = one_cut xs ys us vs (both_true (plain x) (list_all plain xs) p).1 (both_true (plain u) (list_all plain us) q).1 rest in
     (cc, cut.1)
 
--- what stands before the colon, and what stands after it
-abbrev pub IsScheme : List ℕ → Type 0
-IsScheme bytes = (first : ℕ) × (rest : List ℕ) × (bytes ≡ first ∷ rest) × (is_ascii_alphabetic first ≡ true) × AllPass is_scheme_byte rest
-
+-- what stands after the colon
 abbrev pub IsRest : List ℕ → Type 0
 IsRest bytes = (0 < length bytes) × AllPass is_visible bytes
 
-scheme_plain : (u : ℕ) (us : List ℕ) → is_ascii_alphabetic u ≡ true → AllPass is_scheme_byte us → list_all plain (u ∷ us) ≡ true
+pub scheme_plain : (u : ℕ) (us : List ℕ) → is_ascii_alphabetic u ≡ true → AllPass is_scheme_byte us → list_all plain (u ∷ us) ≡ true
 scheme_plain u us h k =
     and_true (plain u) (list_all plain us) (apart is_ascii_alphabetic refl u h) (all_plain us (list_all-from_AllPass is_scheme_byte us k))
 

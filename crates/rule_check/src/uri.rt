@@ -1,11 +1,10 @@
 //! Which bytes are a URI.
-ghost use Rattle.std.specs.Prelude.{◌≡◌, ◌<◌, ◌↔◌, ◌==◌, ◌∷◌, ◌++◌, ℕ, List, not, true, IsTrue, MatchOption, length};
-ghost use Rattle.std.specs.Char.{is_ascii_alphabetic};
+ghost use Rattle.std.specs.Prelude.{◌≡◌, ◌<◌, ◌↔◌, ◌==◌, ◌∷◌, ◌++◌, not, IsTrue, MatchOption, length};
 ghost use Rattle.std.specs.List.{AllPass};
-ghost use Rattle.ddds_walk.specs.Rules.{IsUri, is_scheme_byte, is_visible};
+ghost use Rattle.rule_check.specs.Uris.{IsScheme, IsUri, is_scheme_byte, is_visible};
 
-// Whether the bytes are a URI: a scheme, a colon and at least one byte, all visible (RFC 3986, section 3).
-pub(crate) fn is_uri(bytes: &[u8]) -> bool
+/// Whether the bytes are a URI: a scheme, a colon and at least one byte, all visible (RFC 3986, section 3).
+pub fn is_uri(bytes: &[u8]) -> bool
     ensures { IsTrue result ↔ IsUri bytes.now }
 {
     match halves(bytes) {
@@ -14,8 +13,8 @@ pub(crate) fn is_uri(bytes: &[u8]) -> bool
     }
 }
 
-// The bytes before the first colon, and those after it.
-fn halves(bytes: &[u8]) -> Option<(&[u8], &[u8])>
+/// The bytes before the first colon, and those after it.
+pub(crate) fn halves(bytes: &[u8]) -> Option<(&[u8], &[u8])>
     ensures { MatchOption result (AllPass (λ b. not (b == 58)) bytes.now) (λ parts.
         (bytes.now ≡ parts.0.now ++ 58 ∷ parts.1.now) × AllPass (λ b. not (b == 58)) parts.0.now) }
 {
@@ -23,10 +22,9 @@ fn halves(bytes: &[u8]) -> Option<(&[u8], &[u8])>
     Some((&bytes[..colon], &bytes[colon + 1..]))
 }
 
-// Whether the bytes are a scheme (RFC 3986, section 3.1).
-fn is_scheme(bytes: &[u8]) -> bool
-    ensures { IsTrue result ↔ ((first : ℕ) × (rest : List ℕ) × (bytes.now ≡ first ∷ rest)
-        × (is_ascii_alphabetic first ≡ true) × AllPass is_scheme_byte rest) }
+/// Whether the bytes are a scheme (RFC 3986, section 3.1).
+pub(crate) fn is_scheme(bytes: &[u8]) -> bool
+    ensures { IsTrue result ↔ IsScheme bytes.now }
 {
     match bytes {
         [first, rest @ ..] => first.is_ascii_alphabetic()
