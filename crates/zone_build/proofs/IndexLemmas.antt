@@ -206,8 +206,11 @@ inserted_key old new key places update there r s = record {
   only = λ other one c. elim (in_either new other one c) [
     | inl front ↦ elim (bool_cases (nat_eq key other)) [
       | inl hit ↦ inr (given one (sym (update other ∙ ap (λ b. cond b (Some places) (lookup (nat_eq other) old.entries)) hit) ∙ front))
-      | inr miss ↦ inl (other, in_map old other one
-          (sym (update other ∙ ap (λ b. cond b (Some places) (lookup (nat_eq other) old.entries)) miss) ∙ front))
+      | inr miss ↦ inl (
+        other,
+        in_map old other one
+            (sym (update other ∙ ap (λ b. cond b (Some places) (lookup (nat_eq other) old.entries)) miss) ∙ front),
+      )
     ]
     | inr back ↦ inl (from_list one
         (Contains-append_cases old.rest (option_to_list (lookup (nat_eq key) old.entries)) one (subst (λ l. Contains l one) r back)))

@@ -82,7 +82,13 @@ deciding_first zones name more b none = record {
   longest = λ z c h. elim (among_zones zones more z c) [ inl old ↦ absurd (none z old h) | inr new ↦ inl new ];
 }
 
-longer_or_not : (n m : ℕ) → (n < m) ⊎ (m ≤ n)
+-- a name above another one is shorter
+pub shorter : (one other : Labels) → ¬ AreSame one other → IsBelow one other → length other < length one
+shorter one other not ([], back, parts, same) = absurd (not (ap folded_labels parts ∙ same))
+shorter one other not (label ∷ front, back, parts, same) =
+    omega (arith, ap length parts, length-append front back, length_same back other same)
+
+pub longer_or_not : (n m : ℕ) → (n < m) ⊎ (m ≤ n)
 longer_or_not n m = grind arith
 
 -- one that is above the best so far is shorter, for they have not the same apex
@@ -96,11 +102,6 @@ deciding_kept zones name zone more apart below d = record {
     | inr new ↦ inr (subst (λ (y : Zone). length y.apex < length zone.apex) (sym new) (shorter zone.apex more.apex apart below))
   ];
 }
-  where
-    shorter : (one other : Labels) → ¬ AreSame one other → IsBelow one other → length other < length one
-    shorter one other not ([], back, parts, same) = absurd (not (ap folded_labels parts ∙ same))
-    shorter one other not (l ∷ front, back, parts, same) =
-        omega (arith, ap length parts, length-append front back, length_same back other same)
 
 pub deciding_longer : (zones : List Zone) (name : Labels) (zone more : Zone) → IsBelow name more.apex
     → ¬ IsBelow zone.apex more.apex → IsDeciding zones name (Some zone)

@@ -1,6 +1,6 @@
 -- Existing names, closest enclosers, cuts and answers of a zone.
-use Rattle.std.proofs.Common.{◌≡◌, ◌≢◌, ◌⊎◌, inl, inr, ℕ, suc, ◌+◌, ◌<◌, ◌≤◌, List, [], ◌∷◌, ◌++◌, length, map, get_or}
-use Rattle.std.proofs.Common.{Option, Some, None, refl, sym, ap, subst, ◌∙◌, arith, append_assoc, length-append}
+use Rattle.std.proofs.Common.{◌≡◌, ◌≢◌, ◌⊎◌, inl, inr, ℕ, ◌<◌, ◌≤◌, List, [], ◌∷◌, ◌++◌, length, map, get_or}
+use Rattle.std.proofs.Common.{Option, Some, None, refl, sym, ap, subst, ◌∙◌, arith, length-append}
 use Rattle.std.specs.Prelude.{Contains}
 use Rattle.std.specs.List.{flat_map}
 use Rattle.std.proofs.lemmas.List.Elements.{Contains-append_right, Contains-append_cases}
@@ -15,6 +15,7 @@ use Rattle.dns_wire.specs.declared.record.Record.{Record}
 use Rattle.zone_build.specs.Zone.{Zone, IsIn, IsSet, IsCanonical, IsValid}
 use Rattle.zone_build.specs.Finding.{IsLeastKindAt}
 use Rattle.zone_build.proofs.IndexLemmas.{below_both}
+use Rattle.zone_build.proofs.SomeSetLemmas.{length-wire}
 use Rattle.zone_build.specs.Plain.{owned_of, plain_of}
 use Rattle.zone_db.specs.LookUp.{IsHighestCut, HasKind, AsksFor, MeetsAlias, IsAnswered, every}
 use Rattle.zone_db.specs.Seeking.{IsClosest, IsHighest, IsNsAt, IsLeastKind, IsUncut}
@@ -111,10 +112,6 @@ closest_further zone (label ∷ name) above closest is not b (exists, which) =
     ]
 
 -- the wildcard before a closest encloser fits a name
-length-wire : (label : List ℕ) (labels : Labels) → length (wire_of (label ∷ labels)) ≡ suc (length label + length (wire_of labels))
-length-wire label labels =
-    ap (λ l. suc (length l)) (append_assoc label (flat_map label_wire labels) (0 ∷ [])) ∙ ap suc (length-append label (wire_of labels))
-
 pub wildcard_fits : (zone : Zone) (name encloser : Labels) → IsName name → Encloses (plain_of zone) name encloser
     → Some (star ∷ encloser) ≡ name_within (star ∷ encloser)
 wildcard_fits zone name encloser h e =

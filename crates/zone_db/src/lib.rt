@@ -18,7 +18,9 @@ mod words;
 
 pub use fault::AddFault;
 pub use found::Found;
-pub use laws::{found_is_offered, found_is_readable, one_add_fault, one_answer, rules_are_apart};
+pub use laws::{
+    found_is_offered, found_is_readable, one_add_fault, one_answer, rules_are_apart, some_answer,
+};
 pub use set::ZoneSet;
 pub use source::ZoneSource;
 pub use zone_build::{Zone, ZoneFault, one_zone, one_zone_fault, zone_or_fault};

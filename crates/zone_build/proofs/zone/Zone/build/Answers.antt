@@ -69,7 +69,7 @@ invariant_of-result c =
           (subst (λ xs. IsFirstLarge xs None × (plan.cut ≡ None)) c.as_slice-3.ensures.value c.in-None.ensures.none);
       indexed = subst (λ xs. IsIndex xs plan.apex c.in_ok-index_of-in-None.field-0) c.as_slice-in-None.ensures.value c.in_ok-index_of-in-None.ensures;
       counted = subst (λ xs. c.count_in.result
-      ≡ rules_and_aliases_in (map owned_of xs)) c.as_slice-in-None-2.ensures.value c.count_in.ensures.count;
+          ≡ rules_and_aliases_in (map owned_of xs)) c.as_slice-in-None-2.ensures.value c.count_in.ensures.count;
       few = subst (λ (xs : List Record). c.count_in.result ≤ length xs) c.as_slice-in-None-2.ensures.value c.count_in.ensures.few;
     }
 
