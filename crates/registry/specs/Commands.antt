@@ -13,7 +13,7 @@ use Rattle.dns_wire.specs.declared.record.Record.{Record}
 use Rattle.service_field.specs.Applications.{Meaning}
 use Rattle.zone_build.specs.Zone.{Zone, AreOneSet, IsCanonical, IsIn, IsSet, weight}
 use Rattle.zone_db.specs.LookUp.{HasKind, IsCut}
-use Rattle.ddds_walk.specs.WellFormed.{IsFirstFault}
+use Rattle.rule_check.specs.WellFormed.{IsFirstFault}
 use Rattle.registry.specs.declared.fault.RegistryFault.{RegistryFault}
 use Rattle.registry.specs.declared.fault.RegistryFault.TheVariants as fault
 
@@ -91,8 +91,8 @@ pub record IsRefusal (command : Command) (zone : Zone) (f : RegistryFault) : Typ
   pub first : (earlier : RegistryFault) → number earlier < number f → ¬ Refuses command zone earlier
 
 -- the record that a command makes: its owner folded, with the TTL of its set, or 3,600 seconds where it begins one
-pub record IsNew (zone : Zone) (owner : Labels) (said : Content) (one : Record) : Type 0 where
-  pub owner : one.owner ≡ folded_labels owner
+pub record IsNew (zone : Zone) (at : Labels) (said : Content) (one : Record) : Type 0 where
+  pub owner : one.owner ≡ folded_labels at
   pub kind : one.kind ≡ kind_of said
   pub class : one.class ≡ internet
   pub content : one.content ≡ said

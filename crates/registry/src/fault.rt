@@ -1,5 +1,5 @@
 //! Why a command is refused.
-use ddds_walk::RuleFault;
+use rule_check::RuleFault;
 use enum_base::MemoryFault;
 
 /// Why a registry refuses a command: the first that holds, in this order.
