@@ -6,7 +6,7 @@ use dns_wire::{Question, Records};
 #[derive(Drop)]
 pub struct Draft {
     pub authoritative: bool,
-    pub code: u16,
+    pub code: u8,
     pub question: Option<Question>,
     pub answers: Records,
     pub authority: Records,
@@ -17,7 +17,7 @@ pub struct Draft {
 /// What is added to a reply for a name that is looked up: a code, and records of its sections.
 #[derive(Drop)]
 pub struct Added {
-    pub code: u16,
+    pub code: u8,
     pub answers: Records,
     pub authority: Records,
     pub glue: Records,

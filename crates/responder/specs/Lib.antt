@@ -1,0 +1,5 @@
+pub mod Answering
+pub mod Drafting
+pub mod Laws
+pub mod Loops
+pub mod Sizes
