@@ -1,13 +1,14 @@
 //! What is added to a reply for a name that is looked up (RFC 1034, 4.3.2).
-ghost use Rattle.std.specs.Prelude.{◌≡◌, ◌≤◌, ◌∷◌, ◌++◌, [], Contains, IsTrue, ◌↔◌, IfOk};
+ghost use Rattle.std.specs.Prelude.{◌≡◌, ◌+◌, ◌≤◌, ◌∷◌, ◌++◌, [], Contains, IsTrue, ◌↔◌, IfOk, OnOk, List, ℕ};
 ghost use Rattle.std.specs.List.{AllByRecursion};
 ghost use Rattle.dns_name.specs.Name.{folded_labels};
 ghost use Rattle.dns_wire.specs.declared.record.Record.{Record};
 ghost use Rattle.zone_build.specs.Zone.{weight};
-ghost use Rattle.zone_db.specs.LookUp.{IsFound, shown, Shown};
+ghost use Rattle.zone_db.specs.LookUp.{IsFound, shown};
 ghost use Rattle.zone_db.specs.Replies.{Adds, Follows, IsGlue, IsNegative, Refers, nothing, owned_by};
 ghost use Rattle.zone_db.specs.declared.found.Found.TheVariants as f;
 ghost use Rattle.responder.specs.Drafting.{AddsNegative, IsAliasOf, IsReferral, TellsServer, TellsStart, added_size, most_added};
+ghost use Rattle.responder.specs.Sizes.{size};
 
 use crate::copies::{copies, negative_start, owned_by};
 use crate::glue::glue_of;

@@ -1,5 +1,5 @@
 //! How much of what is said goes out.
-ghost use Rattle.std.specs.Prelude.{◌≡◌, ◌≤◌, length, option_map};
+ghost use Rattle.std.specs.Prelude.{◌≡◌, ◌≤◌, ℕ, length, option_map};
 ghost use Rattle.std.specs.List.{flat_map};
 ghost use Rattle.dns_wire.specs.Encoding.{question_wire};
 ghost use Rattle.zone_db.specs.Replies.{limit_of, options_for, questions_of};

@@ -68,7 +68,7 @@ fn post(
     out: &mut Bytes,
 ) -> Result<(), MemoryFault>
     requires { IsTrue (are_counted (questions_of draft.question) draft.answers draft.authority
-        (draft.glue ++ options_for (option_map (λ r. r.now) options.entry) draft.code)) }
+        (draft.glue ++ options_for (option_map (λ r. r.now) options) draft.code)) }
     ensures ok { OnOk result (Posts query.now (option_map (λ r. r.now) options.entry) short draft out.old out.new) }
     ensures err { OnErr result (out.new ≡ out.old) }
 {
@@ -88,7 +88,7 @@ fn message_of(
     draft: Draft,
 ) -> Result<Message, MemoryFault>
     requires { IsTrue (are_counted (questions_of draft.question) draft.answers draft.authority
-        (draft.glue ++ options_for (option_map (λ r. r.now) options.entry) draft.code)) }
+        (draft.glue ++ options_for (option_map (λ r. r.now) options) draft.code)) }
     ensures { IfOk result (IsMessageOf query.now (option_map (λ r. r.now) options.entry) short draft) }
 {
     let header = reply_header(query, draft.authoritative, short, draft.code);

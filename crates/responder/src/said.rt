@@ -1,5 +1,5 @@
 //! What is said to a query.
-ghost use Rattle.std.specs.Prelude.{◌≡◌, IfOk};
+ghost use Rattle.std.specs.Prelude.{◌≡◌, ◌≤◌, Some, IfOk};
 ghost use Rattle.zone_db.specs.LookUp.{shown};
 ghost use Rattle.zone_db.specs.Replies.{Comes, Finds, bare, draft_with, is_authoritative, plan_of};
 ghost use Rattle.responder.specs.Drafting.{IsSmall, added_size, plan_as};

@@ -1,5 +1,5 @@
-use Rattle.std.proofs.Common.{◌≡◌, ◌++◌, take}
+use Rattle.std.proofs.Common.{◌≡◌, ◌++◌}
 use Rattle.responder.proofs.added.push_all.Given as goal
 
 abbrev pub invariant-loop-one : goal.invariant-loop-one
-invariant-loop-one l = l.out ≡ l.fn.out ++ take l.one-index l.records
+invariant-loop-one l = l.out ≡ l.fn.out ++ l.yielded
