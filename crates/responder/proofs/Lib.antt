@@ -1,3 +1,5 @@
+pub mod AddedLemmas
 pub mod ReadyLemmas
 pub mod GlueLemmas
+pub mod SendLemmas
 pub mod SizeLemmas

@@ -18,7 +18,7 @@ use Rattle.zone_db.specs.Offering.{IsReadable}
 use Rattle.zone_db.specs.Sets.{AreZones}
 use Rattle.zone_db.specs.declared.found.Found.{Found}
 use Rattle.zone_db.specs.declared.found.Found.TheVariants as found
-use Rattle.zone_db.proofs.OfferLemmas.{found_readable}
+use Rattle.zone_db.proofs.OfferLemmas.{found_is_readable}
 use Rattle.responder.specs.Drafting.{IsAliasOf, IsReady, TellsServer, TellsStart}
 
 -- a list that is one alias, by its first record
@@ -92,7 +92,7 @@ found_ready zones name kind (found.Cut set) are (zone, owner, decides, highest, 
       valid.small owner 2 set.now cut,
     )
 found_ready zones name kind (found.Alias set) are is =
-    let (one, target, only, tells) = found_readable zones name kind (found.Alias set) are is in (target, (one, only, tells))
+    let (one, target, only, tells) = found_is_readable zones name kind (found.Alias set) are is in (target, (one, only, tells))
 found_ready zones name kind (found.Set set) are (zone, source, answered, served, not, is, one) =
     (valid_of zones zone are served.decides.among).small source answered set.now one
 found_ready zones name kind (found.NoSet start) are (zone, source, served, exists, not, none, is) =
