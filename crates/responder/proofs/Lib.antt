@@ -1,4 +1,5 @@
 pub mod AddedLemmas
+pub mod LoopLemmas
 pub mod ReadyLemmas
 pub mod GlueLemmas
 pub mod SendLemmas

@@ -15,7 +15,6 @@ use Rattle.dns_wire.specs.Rdata.{rdata_of}
 use Rattle.dns_wire.specs.declared.record.Record.{Record}
 use Rattle.zone_build.specs.Zone.{weight}
 use Rattle.dns_wire.specs.Counts.{is_counted, are_counted}
-use Rattle.dns_wire.specs.declared.message.Counts.{Counts}
 use Rattle.dns_wire.specs.declared.message.Header.{Header}
 use Rattle.dns_wire.specs.declared.message.Message.{Message}
 use Rattle.dns_wire.specs.declared.question.Question.{Question}
@@ -100,14 +99,14 @@ small_counted options draft small =
     (counted draft.authority (omega (arith, small, items_size draft.authority)))
     (counted (draft.glue ++ more) (omega (arith, small, length-append draft.glue more, items_size draft.glue, items_size more)))
 
-header_size : (header : Header) (counts : Counts) → length (header_wire header counts) ≡ 12
-header_size header counts =
-    let a = to_be_bytes w16 header.id in
-    let b = to_be_bytes w16 header.bits in
-    let c = to_be_bytes w16 counts.questions in
-    let d = to_be_bytes w16 counts.answers in
-    let e = to_be_bytes w16 counts.authority in
-    let f = to_be_bytes w16 counts.additional in
+header_size : (message : Message) → length (header_wire message.header (counts_of message)) ≡ 12
+header_size message =
+    let a = to_be_bytes w16 message.header.id in
+    let b = to_be_bytes w16 message.header.bits in
+    let c = to_be_bytes w16 (length message.questions) in
+    let d = to_be_bytes w16 (length message.answers) in
+    let e = to_be_bytes w16 (length message.authority) in
+    let f = to_be_bytes w16 (length message.additional) in
     omega (
       arith,
       length-append a b,
@@ -130,7 +129,7 @@ message_size query options short draft message parts =
     ap size parts.additional ∙ both_size draft.glue (options_for options draft.code) in
     omega (
       arith,
-      header_size message.header (counts_of message),
+      header_size message,
       length-append header questions,
       length-append (header ++ questions) answers,
       length-append (header ++ questions ++ answers) authority,

@@ -1,6 +1,6 @@
 -- A link to zones in memory, which fails at listed calls (this project's own).
 use Rattle.std.specs.Prelude.{◌≡◌, ◌⊎◌, ℕ, List, Contains, Some, None, Result, IsErr, OnOk, OnErr}
-use Rattle.enum_base.specs.Causes.{one_more}
+use Rattle.enum_base.specs.Causes.{HasCause, one_more}
 use Rattle.zone_build.specs.Zone.{Zone}
 use Rattle.zone_db.specs.Links.{Kept, LinkState}
 use Rattle.zone_db.specs.Replies.{IsReply}
@@ -48,5 +48,6 @@ pub record Replies {E : Type 0} (old new : MemoryLink) (way : Way) (query : List
   pub listed : Contains old.failing old.kept.exchanges → IsErr result
   pub err : OnErr result (Contains old.failing old.kept.exchanges ⊎ (IsReply old.zones query way None ⊎ (new.short ≡ one_more old.short)))
   pub silent : IsReply old.zones query way None → IsErr result
-  pub ok : OnOk result ((new.short ≡ old.short) × (new.faults ≡ old.faults))
+  pub ok : OnOk result (new.short ≡ old.short)
+  pub cause : HasCause old.faults new.faults result
   pub raised : OnErr result (new.faults ≡ one_more old.faults)

@@ -1,5 +1,5 @@
 //! Replies to queries.
-ghost use Rattle.std.specs.Prelude.{◌≡◌, ◌≤◌, length, Ok, None, IfOk, OnOk, OnErr};
+ghost use Rattle.std.specs.Prelude.{◌≡◌, ◌≤◌, ◌↔◌, length, Ok, None, IsTrue, IfOk, OnOk, OnErr};
 ghost use Rattle.dns_wire.specs.Message.{Spells};
 ghost use Rattle.zone_db.specs.Bits.{IsSilent, header_of};
 ghost use Rattle.zone_db.specs.Replies.{bare, limit_of};
@@ -55,9 +55,19 @@ fn speak(alloc: Global, zones: &ZoneSet, query: &[u8], way: Way, out: &mut Bytes
 {
     match decode(alloc, query) {
         Ok(message) => speak_to(alloc, zones, query, &message, way, out),
-        Err(DecodeFault::Memory) => Err(MemoryFault),
-        Err(_) => speak_to_bytes(alloc, query, way, out),
+        Err(fault) => {
+            if is_memory(fault) {
+                return Err(MemoryFault);
+            }
+            speak_to_bytes(alloc, query, way, out)
+        }
     }
+}
+
+fn is_memory(fault: DecodeFault) -> bool
+    ensures { IsTrue result ↔ (fault ≡ DecodeFault.Memory) }
+{
+    fault == DecodeFault::Memory
 }
 
 // Appends the reply to a query that is a message.

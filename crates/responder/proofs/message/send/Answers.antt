@@ -1,4 +1,6 @@
-use Rattle.std.proofs.Common.{◌≡◌, subst, sym, arith, option_map}
+use Rattle.std.proofs.Common.{◌≡◌, subst, sym, arith, Bor, Option, option_map}
+use Rattle.dns_wire.specs.declared.record.Record.{Record}
+use Rattle.zone_db.specs.Replies.{without_glue}
 use Rattle.zone_db.specs.declared.draft.Draft.{Draft}
 use Rattle.responder.proofs.SizeLemmas.{IsCounted, small_counted}
 use Rattle.responder.proofs.SendLemmas.{sends_whole, sends_no_glue, sends_short}
@@ -9,7 +11,9 @@ post-requires c = small_counted _ c.args.draft (omega (arith, c.in-Whole.ensures
 
 pub post-requires-in-NoGlue : goal.post-requires-in-NoGlue
 post-requires-in-NoGlue c =
-    rw c.without_glue.ensures (small_counted _ _ (omega (arith, c.in-NoGlue.ensures.1, c.requires)))
+    let options : Option Record = option_map {T = Bor Record} (λ r. r.now) c.args.options in
+    subst (λ (d : Draft). IsCounted options d) (sym c.without_glue.ensures)
+    (small_counted options (without_glue c.args.draft) (omega (arith, c.in-NoGlue.ensures.1, c.requires)))
 
 pub returns-in-Whole-clause-ok : goal.returns-in-Whole-clause-ok
 returns-in-Whole-clause-ok c =
