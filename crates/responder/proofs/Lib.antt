@@ -1,5 +1,6 @@
 pub mod AddedLemmas
 pub mod LoopLemmas
+pub mod OneReplyLemmas
 pub mod ReadyLemmas
 pub mod GlueLemmas
 pub mod SendLemmas

@@ -37,13 +37,13 @@ replies_ok old held way query reply not = record {
 abbrev pub begun : Kept → Way → List ℕ → Kept
 begun kept way query = record { exchanges = one_more kept.exchanges; way = way; query = query; recent = kept.recent }
 
-first_of : {A E P Q : Type 0} (result : Result A E) → OnOk result (P × Q) → OnOk result P
-first_of (Ok done) both = both.0
-first_of (Err fault) both = tt
+first_of : {A E : Type 0} (P Q : Type 0) (result : Result A E) → OnOk result (P × Q) → OnOk result P
+first_of P Q (Ok done) both = both.0
+first_of P Q (Err fault) both = tt
 
-second_of : {A E P Q : Type 0} (result : Result A E) → OnOk result (P × Q) → OnOk result Q
-second_of (Ok done) both = both.1
-second_of (Err fault) both = tt
+second_of : {A E : Type 0} (P Q : Type 0) (result : Result A E) → OnOk result (P × Q) → OnOk result Q
+second_of P Q (Ok done) both = both.1
+second_of P Q (Err fault) both = tt
 
 exchanged : {E : Type 0} (old now : MemoryLink) (way : Way) (query : List ℕ) (done : Result Unit E)
     → Replies (record old { kept = begun old.kept way query }) now way query done
@@ -54,8 +54,8 @@ exchanged old now way query done replies = record {
   way = ap (λ (k : Kept). k.way) replies.kept;
   query = ap (λ (k : Kept). k.query) replies.kept;
   recent = ap (λ (k : Kept). recent_after k.recent done) replies.kept;
-  replied = first_of done replies.held;
-  whole = second_of done replies.held;
+  replied = first_of _ _ done replies.held;
+  whole = second_of _ _ done replies.held;
   silent = replies.silent;
 }
 

@@ -68,8 +68,7 @@ tell_servers : (zone : Zone) (owner : Labels) (set : List Record) → IsValid zo
     → AllByRecursion (IsIn owner ns) set → AllByRecursion TellsServer set
 tell_servers zone owner [] valid among each = tt
 tell_servers zone owner (one ∷ set) valid among each =
-    let c = among one (Contains-head one set) in
-    (
+    let c = among one (Contains-head one set) in (
       ns_content one.content (sym (kind_of_record zone one valid c) ∙ each.0.1) (valid.plain one c).whole,
       tell_servers zone owner set valid (λ x d. among x (Contains-after one set x d)) each.1,
     )
@@ -86,8 +85,7 @@ valid_of zones zone are c = AllByRecursion-contains IsValid zones zone are.each 
 pub found_ready : (zones : List Zone) (name : Labels) (kind : ℕ) (f : Found) → AreZones zones → IsFound zones name kind f → IsReady f
 found_ready zones name kind found.Outside are is = tt
 found_ready zones name kind (found.Cut set) are (zone, owner, decides, highest, cut) =
-    let valid = valid_of zones zone are decides.among in
-    (
+    let valid = valid_of zones zone are decides.among in (
       tell_servers zone owner set.now valid (λ one c. in_set zone.records owner 2 set.now one cut c) cut.each,
       valid.small owner 2 set.now cut,
     )

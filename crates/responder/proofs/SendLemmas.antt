@@ -62,10 +62,10 @@ sends_short limit query options draft other old new (Ok done) is more posts =
     record {
       bytes = posts.bytes;
       sent =
-        inr (
-          not_fits limit query options draft (omega (arith, more)),
-          inr (not_fits limit query options (without_glue draft) (omega (arith, more)), posted),
-        );
+          inr (
+            not_fits limit query options draft (omega (arith, more)),
+            inr (not_fits limit query options (without_glue draft) (omega (arith, more)), posted),
+          );
       appended = posts.appended;
     }
 sends_short limit query options draft other old new (Err fault) is more posts = tt

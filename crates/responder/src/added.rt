@@ -49,7 +49,15 @@ pub(crate) fn added_for(
                 kind: question.kind,
                 class: question.class,
             };
-            let rest = added_for(alloc, zones, &next, more - 1, seen, 0, zones.lookup(&target, question.kind))?;
+            let rest = added_for(
+                alloc,
+                zones,
+                &next,
+                more - 1,
+                seen,
+                0,
+                zones.lookup(&target, question.kind),
+            )?;
             with_alias(alloc, &question.name, set, rest)
         }
         Found::Set(set) => set_added(alloc, zones, question, set),
@@ -71,7 +79,12 @@ pub(crate) fn nothing(alloc: Global, code: u8) -> Added
 }
 
 // The servers of a cut and their addresses.
-fn referral(alloc: Global, zones: &ZoneSet, question: &Question, set: &[Record]) -> Result<Added, MemoryFault>
+fn referral(
+    alloc: Global,
+    zones: &ZoneSet,
+    question: &Question,
+    set: &[Record],
+) -> Result<Added, MemoryFault>
     requires { IsFound zones.now question.now.name question.now.kind (f.Cut set) }
     ensures refers { IfOk result (Refers zones.now question.now.name set.now) }
     ensures size { IfOk result (λ added. added_size added ≤ 60_000) }
@@ -155,7 +168,12 @@ fn push_all(records: Records, out: &mut Records) -> Result<(), MemoryFault>
 }
 
 // A set, told of the name.
-fn set_added(alloc: Global, zones: &ZoneSet, question: &Question, set: &[Record]) -> Result<Added, MemoryFault>
+fn set_added(
+    alloc: Global,
+    zones: &ZoneSet,
+    question: &Question,
+    set: &[Record],
+) -> Result<Added, MemoryFault>
     requires { IsFound zones.now question.now.name question.now.kind (f.Set set) }
     ensures added { IfOk result (λ added. added ≡ record (nothing 0) { answers = owned_by question.now.name set.now }) }
     ensures size { IfOk result (λ added. added_size added ≤ 60_000) }
@@ -168,7 +186,12 @@ fn set_added(alloc: Global, zones: &ZoneSet, question: &Question, set: &[Record]
 }
 
 // The SOA, where the name has no such set.
-fn no_set_added(alloc: Global, zones: &ZoneSet, question: &Question, start: &Record) -> Result<Added, MemoryFault>
+fn no_set_added(
+    alloc: Global,
+    zones: &ZoneSet,
+    question: &Question,
+    start: &Record,
+) -> Result<Added, MemoryFault>
     requires { IsFound zones.now question.now.name question.now.kind (f.NoSet start) }
     ensures added { IfOk result (AddsNegative start.now 0) }
     ensures size { IfOk result (λ added. added_size added ≤ 60_000) }
@@ -179,7 +202,12 @@ fn no_set_added(alloc: Global, zones: &ZoneSet, question: &Question, start: &Rec
 }
 
 // The SOA and NXDOMAIN, where the name does not exist.
-fn no_name_added(alloc: Global, zones: &ZoneSet, question: &Question, start: &Record) -> Result<Added, MemoryFault>
+fn no_name_added(
+    alloc: Global,
+    zones: &ZoneSet,
+    question: &Question,
+    start: &Record,
+) -> Result<Added, MemoryFault>
     requires { IsFound zones.now question.now.name question.now.kind (f.NoName start) }
     ensures added { IfOk result (AddsNegative start.now 3) }
     ensures size { IfOk result (λ added. added_size added ≤ 60_000) }

@@ -7,9 +7,13 @@ use dns_wire::Header;
 
 // The bits of a header, and the unit of the opcode, which has four.
 const QR: u16 = 0x8000;
+
 const OPCODE: u16 = 0x0800;
+
 const AA: u16 = 0x0400;
+
 const TC: u16 = 0x0200;
+
 const RD: u16 = 0x0100;
 
 /// Whether nothing is said to the query. Takes no memory.

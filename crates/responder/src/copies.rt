@@ -14,7 +14,11 @@ use enum_base::MemoryFault;
 use std::alloc::Global;
 
 /// Records, told of a name.
-pub(crate) fn owned_by(alloc: Global, name: &Name, records: &[Record]) -> Result<Records, MemoryFault>
+pub(crate) fn owned_by(
+    alloc: Global,
+    name: &Name,
+    records: &[Record],
+) -> Result<Records, MemoryFault>
     ensures owned { IfOk result (λ owned. owned ≡ owned_by name.now records.now) }
     ensures size { IfOk result (λ owned. size owned ≤ weight records.now) }
 {
@@ -63,7 +67,11 @@ fn copy_of(alloc: Global, one: &Record) -> Result<Record, MemoryFault>
 }
 
 /// Puts the records after the others.
-pub(crate) fn push_copies(alloc: Global, records: &[Record], out: &mut Records) -> Result<(), MemoryFault>
+pub(crate) fn push_copies(
+    alloc: Global,
+    records: &[Record],
+    out: &mut Records,
+) -> Result<(), MemoryFault>
     ensures { OnOk result (out.new ≡ out.old ++ records.now) }
 {
     for one in records {

@@ -13,6 +13,7 @@ use zone_db::{Draft, Way};
 
 // A datagram without options, and one with any, in bytes (RFC 1035, 4.2.1).
 const LEAST: u16 = 512;
+
 const MOST: u16 = 4096;
 
 /// How much of what is said goes out: all of it, all but the glue, or no record.

@@ -13,7 +13,11 @@ use std::alloc::Global;
 use zone_db::Zone;
 
 /// The addresses of the servers of a cut, in their order.
-pub(crate) fn glue_of(alloc: Global, zone: &Zone, servers: &[Record]) -> Result<Records, MemoryFault>
+pub(crate) fn glue_of(
+    alloc: Global,
+    zone: &Zone,
+    servers: &[Record],
+) -> Result<Records, MemoryFault>
     requires { AllByRecursion TellsServer servers.now }
     ensures { IfOk result (IsGlue zone.now servers.now) }
 {
@@ -25,7 +29,12 @@ pub(crate) fn glue_of(alloc: Global, zone: &Zone, servers: &[Record]) -> Result<
 }
 
 // Puts the addresses of the server that the record tells after the others.
-fn push_glue(alloc: Global, zone: &Zone, one: &Record, glue: &mut Records) -> Result<(), MemoryFault>
+fn push_glue(
+    alloc: Global,
+    zone: &Zone,
+    one: &Record,
+    glue: &mut Records,
+) -> Result<(), MemoryFault>
     requires { TellsServer one.now }
     ensures { OnOk result (AddsGlue zone.now one.now glue.old glue.new) }
 {

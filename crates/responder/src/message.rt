@@ -31,8 +31,22 @@ pub(crate) fn send(
 {
     match cut_to(limit, options, &draft) {
         Cut::Whole => post(alloc, query, options, false, draft, out),
-        Cut::NoGlue => post(alloc, query, options, false, without_glue(alloc, draft), out),
-        Cut::Short => post(alloc, query, options, true, without_records(alloc, draft), out),
+        Cut::NoGlue => post(
+            alloc,
+            query,
+            options,
+            false,
+            without_glue(alloc, draft),
+            out,
+        ),
+        Cut::Short => post(
+            alloc,
+            query,
+            options,
+            true,
+            without_records(alloc, draft),
+            out,
+        ),
     }
 }
 

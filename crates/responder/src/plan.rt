@@ -10,9 +10,13 @@ use dns_wire::{Message, Question, Record};
 
 // Codes of replies (RFC 1035, 4.1.1; RFC 6891, 9).
 pub(crate) const FORMERR: u8 = 1;
+
 pub(crate) const NXDOMAIN: u8 = 3;
+
 pub(crate) const NOTIMP: u8 = 4;
+
 pub(crate) const REFUSED: u8 = 5;
+
 pub(crate) const BADVERS: u8 = 16;
 
 /// What is done with a query: a code is said at once, alone or with the question, or the question is looked up.
@@ -60,7 +64,9 @@ fn plan_of_one(options: Option<&Record>, question: &Question) -> Plan
 fn is_refused(question: &Question) -> bool
     ensures { result ≡ is_refused question.now }
 {
-    question.class != INTERNET || question.kind == OPT || (249 <= question.kind && question.kind <= 254)
+    question.class != INTERNET
+        || question.kind == OPT
+        || (249 <= question.kind && question.kind <= 254)
 }
 
 fn version_of(options: Option<&Record>) -> u32

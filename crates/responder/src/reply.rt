@@ -48,7 +48,13 @@ pub fn answer(
 }
 
 // Appends the reply to a query that has a whole header and is no reply.
-fn speak(alloc: Global, zones: &ZoneSet, query: &[u8], way: Way, out: &mut Bytes) -> Result<(), MemoryFault>
+fn speak(
+    alloc: Global,
+    zones: &ZoneSet,
+    query: &[u8],
+    way: Way,
+    out: &mut Bytes,
+) -> Result<(), MemoryFault>
     requires { 12 ≤ length query.now }
     ensures ok { OnOk result (Speaks zones.now query.now way out.old out.new) }
     ensures err { OnErr result (out.new ≡ out.old) }
@@ -86,7 +92,14 @@ fn speak_to(
 {
     let options = options_heard(message);
     let draft = said_to(alloc, zones, message)?;
-    send(alloc, limit_of(way, options), &header_of(query), options, draft, out)
+    send(
+        alloc,
+        limit_of(way, options),
+        &header_of(query),
+        options,
+        draft,
+        out,
+    )
 }
 
 // Appends the reply to bytes that are no message.
@@ -95,5 +108,12 @@ fn speak_to_bytes(alloc: Global, query: &[u8], way: Way, out: &mut Bytes) -> Res
     ensures ok { OnOk result (Sends (limit_of way None) (header_of query.now) None (bare 1 None) out.old out.new) }
     ensures err { OnErr result (out.new ≡ out.old) }
 {
-    send(alloc, limit_of(way, None), &header_of(query), None, bare(alloc, FORMERR, None), out)
+    send(
+        alloc,
+        limit_of(way, None),
+        &header_of(query),
+        None,
+        bare(alloc, FORMERR, None),
+        out,
+    )
 }

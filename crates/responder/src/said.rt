@@ -57,7 +57,15 @@ fn found_for(alloc: Global, zones: &ZoneSet, question: &Question) -> Result<Draf
     let authoritative = is_authoritative(&found);
     let mut seen = Names::new(alloc);
     seen.push(question.name.fold())?;
-    let added = added_for(alloc, zones, question, MOST_ALIASES, &mut seen, REFUSED, found)?;
+    let added = added_for(
+        alloc,
+        zones,
+        question,
+        MOST_ALIASES,
+        &mut seen,
+        REFUSED,
+        found,
+    )?;
     Ok(draft_with(question, authoritative, added))
 }
 

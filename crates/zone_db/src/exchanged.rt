@@ -3,8 +3,8 @@ ghost use Rattle.std.specs.Prelude.{◌≡◌, ◌≤◌, [], length, take};
 ghost use Rattle.enum_base.specs.Causes.{one_more};
 ghost use Rattle.zone_db.specs.Links.{recent_after};
 
-use enum_base::Failed;
 use crate::way::Way;
+use enum_base::Failed;
 use std::marker::Model;
 
 /// How many exchanges were begun, the last query with its way, and how many exchanges failed last. It takes no memory.

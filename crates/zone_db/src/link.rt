@@ -3,8 +3,8 @@ ghost use Rattle.std.specs.Prelude.{◌≡◌, ◌≤◌, length};
 ghost use Rattle.enum_base.specs.Causes.{HasCause};
 ghost use Rattle.zone_db.specs.Links.{LinkState, Exchanges, IsAimed, TellsSet};
 
-use enum_base::Failed;
 use crate::way::Way;
+use enum_base::Failed;
 
 /// How many exchanges were begun, and how many calls failed; each stays at its greatest value.
 #[derive(Clone, Copy, Debug, PartialEq, Eq)]

@@ -12,8 +12,7 @@ returns-clause-finds c =
     let found = c.lookup-found.result in
     let added = c.in_ok-added.added in
     let seen : c.push.new.self ≡ folded_labels question.name ∷ [] =
-    c.in_ok-push.ensures.ok ∙ ap (λ (s : List Labels). s ++ c.fold.result ∷ []) c.new-seen.ensures ∙ ap (λ (n : Labels). n ∷ []) c.fold.ensures in
-    (
+    c.in_ok-push.ensures.ok ∙ ap (λ (s : List Labels). s ++ c.fold.result ∷ []) c.new-seen.ensures ∙ ap (λ (n : Labels). n ∷ []) c.fold.ensures in (
       found,
       added,
       c.lookup-found.ensures,
