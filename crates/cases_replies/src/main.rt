@@ -1,14 +1,16 @@
-//! Runs cases of replies, one a line, and prints each line with what it comes to. The file stdout has the answers by RFC 1034,
-//! 1035, 2308, 4592 and 6891 and the rules of this project on replies; `replies.py` works them out in its own way.
+//! Runs cases of replies, one a line, and prints each line with what it comes to. The file stdout has the answers by
+//! RFC 1034, 1035, 2308, 4592 and 6891 and the rules of this project on replies; `replies.py` works them out in its own
+//! way.
 //!
 //! - `zone TEXT`: a zone more, by its text
-//! - `ask WAY SIZE NAME TYPE`: the reply to a query for the name and the type of that number, which came by `datagram` or `stream`,
-//!   with options of that size, or without any where it is `-`: the lines of the message, and how many bytes it has
+//! - `ask WAY SIZE NAME TYPE`: the reply to a query for the name and the type of that number, which came by `datagram`
+//!   or `stream`, with options of that size, or without any where it is `-`: the lines of the message, and how many
+//!   bytes it has
 //! - `size WAY SIZE NAME TYPE`: the same, of the message its first line alone
 //! - `bytes WAY MESSAGE`: the bytes of the reply to that message, which is hexadecimal, or `silent`
-//! - `link FAILING STEP..`: a link to the zones that fails at these calls, which have `,` between; a step is `aim`, or `datagram` or
-//!   `stream`, by which a query for the SOA of `ex.` goes, or `silent`, by which a reply goes. What is told is how many bytes are held
-//!   after each step, or `failed`, and the two counts at the end
+//! - `link FAILING STEP..`: a link to the zones that fails at these calls, which have `,` between; a step is `aim`, or
+//!   `datagram` or `stream`, by which a query for the SOA of `ex.` goes, or `silent`, by which a reply goes. What is
+//!   told is how many bytes are held after each step, or `failed`, and the two counts at the end
 #![tactic(auto)]
 
 mod link;

@@ -20,8 +20,8 @@ use enum_base::MemoryFault;
 use std::alloc::Global;
 use zone_db::{Added, Found, Zone, ZoneSet};
 
-/// What is added for a name by what was found for it, after which so many aliases may be followed; and the code of a name that no
-/// zone serves. `seen` has the folded names that were looked up.
+/// What is added for a name by what was found for it, after which so many aliases may be followed; and the code of a
+/// name that no zone serves. `seen` has the folded names that were looked up.
 pub(crate) fn added_for(
     alloc: Global,
     zones: &ZoneSet,

@@ -27,7 +27,8 @@ pub enum Plan {
     LooksUp(Question),
 }
 
-/// What is done with the query. The first that holds decides: options stray; the opcode is another; there is not one question.
+/// What is done with the query. The first that holds decides: options stray; the opcode is another; there is not one
+/// question.
 pub(crate) fn plan_of(query: &Message) -> Plan
     ensures { plan_as result ≡ plan_of query.now }
 {

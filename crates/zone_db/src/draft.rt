@@ -1,8 +1,8 @@
 //! What a reply says.
 use dns_wire::{Question, Records};
 
-/// What a reply says: whether it is of authority; its code, of which the header has the low four bits and OPT the others; the
-/// question; and the records of its sections, the glue apart.
+/// What a reply says: whether it is of authority; its code, of which the header has the low four bits and OPT the
+/// others; the question; and the records of its sections, the glue apart.
 #[derive(Drop)]
 pub struct Draft {
     pub authoritative: bool,

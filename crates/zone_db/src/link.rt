@@ -13,7 +13,8 @@ pub struct Counts {
     pub faults: u64,
 }
 
-/// A way to ask one server. Every link counts its exchanges and keeps the last query; zones are told by those in memory alone.
+/// A way to ask one server. Every link counts its exchanges and keeps the last query; zones are told by those in memory
+/// alone.
 pub trait Link {
     /// What it tells.
     ghost state: { Self → LinkState };
