@@ -429,7 +429,7 @@ def main():
     for way, size in (("datagram", "-"), ("datagram", "512"), ("datagram", "1232"), ("stream", "-")):
         ask(way, size, "g.ex.", A)
         ask(way, size, "h.ex.", A, "size")
-    heading("A link to the zones: exchanges are counted, one that fails too; `aim` is call 0; a reply is no query")
+    heading("A link to the zones: exchanges are counted, one that fails too; `aim` is call 0; 11 bytes are no query")
     size = len(Reply(ZONES, "stream", 4660, 0x100, ("ex.", SOA, 1)).wire())
     for case, answer in (
             ("- aim datagram stream", "0 bytes, %d bytes, %d bytes; exchanges 2, faults 0" % (size, size)),

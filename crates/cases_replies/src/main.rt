@@ -9,7 +9,7 @@
 //! - `size WAY SIZE NAME TYPE`: the same, of the message its first line alone
 //! - `bytes WAY MESSAGE`: the bytes of the reply to that message, which is hexadecimal, or `silent`
 //! - `link FAILING STEP..`: a link to the zones that fails at these calls, which have `,` between; a step is `aim`, or
-//!   `datagram` or `stream`, by which a query for the SOA of `ex.` goes, or `silent`, by which a reply goes. What is
+//!   `datagram` or `stream`, by which a query for the SOA of `ex.` goes, or `silent`, by which 11 bytes go. What is
 //!   told is how many bytes are held after each step, or `failed`, and the two counts at the end
 #![tactic(auto)]
 

@@ -27,7 +27,8 @@ pub enum Answered {
 /// Appends the reply to a query that came this way (RFC 1034, 4.3.2): on a stream of at most 65,535 bytes, as a
 /// datagram of at most 512, or what the query's options say within 512 to 4,096.
 ///
-/// # Errors Out of memory; then nothing is appended. `Silent` takes no memory.
+/// # Errors
+/// Out of memory; then nothing is appended. `Silent` takes no memory.
 pub fn answer(
     alloc: Global,
     zones: &ZoneSet,
