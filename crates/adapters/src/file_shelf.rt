@@ -1,6 +1,8 @@
 //! Real files as a shelf.
-ghost use Rattle.std.specs.Prelude.{◌≡◌, ◌≤◌, max, length, None, OnOk, OnErr, IfOk};
+ghost use Rattle.std.specs.Prelude.{◌≡◌, ◌≤◌, [], max, length, Some, None, OnOk, OnErr, IfOk};
+ghost use Rattle.std.specs.Io.KnownBytes.{ReadConsumes};
 ghost use Rattle.enum_base.specs.Causes.{HasCause, many_more};
+ghost use Rattle.adapters.specs.Kept.{left_after};
 ghost use Rattle.adapters.specs.Saying.{found, missing, passed_on};
 
 use crate::faults::Faults;
@@ -10,32 +12,32 @@ use std::marker::Model;
 use std::rt::Files;
 use std::{fs, io};
 
-/// Files by their paths. It tells nothing of what they hold; contracts see how many bytes were given, and the count of
-/// faults, which rises at each error.
+/// Files by their paths. As a shelf it tells nothing of what they hold. Contracts see what is left of the file at hand,
+/// where the system tells it, how many bytes were given, and the count of faults, which rises at each error.
 #[derive(Drop)]
 pub struct FileShelf<'a, R: Files> {
     runtime: &'a R,
-    open: Option<R::File>,
+    file: Option<R::File>,
     given: Given,
     faults: Faults,
 }
 
 impl<'a, R: Files> Model for FileShelf<'a, R> {
-    ghost use Rattle.adapters.specs.Kept.{FilesKept};
+    ghost use Rattle.adapters.specs.Kept.{FilesKept, left_of};
 
     ghost Value = { FilesKept };
 
-    ghost view = { λ s. record { given = s.given.now; most_given = s.given.most; faults = s.faults } };
+    ghost view = { λ s. record { left = left_of R.File.remaining s.file; given = s.given.now; most_given = s.given.most; faults = s.faults } };
 }
 
 impl<'a, R: Files> FileShelf<'a, R> {
     /// A shelf with no file open, nothing given and no fault counted.
     pub fn new(runtime: &'a R) -> Self
-        ensures { result ≡ record { given = 0; most_given = 0; faults = 0 } }
+        ensures { result ≡ record { left = Some []; given = 0; most_given = 0; faults = 0 } }
     {
         FileShelf {
             runtime,
-            open: None,
+            file: None,
             given: Given::none(),
             faults: Faults::none(),
         }
@@ -50,10 +52,11 @@ impl<'a, R: Files> FileShelf<'a, R> {
 
     // What is read of the open file into the buffer: nothing where none is open, and an error where it is a folder.
     fn read_open(&mut self, buf: &mut [u8]) -> io::Result<usize>
-        ensures kept { self.new ≡ self.old }
+        ensures kept { self.new ≡ record self.old { left = self.new.left } }
         ensures bound { IfOk result (λ n. n ≤ length buf.new) }
+        ensures bytes { ReadConsumes self.old.left self.new.left result buf.new }
     {
-        match &mut self.open {
+        match &mut self.file {
             Some(file) => file.read(buf),
             None => Ok(0),
         }
@@ -62,15 +65,16 @@ impl<'a, R: Files> FileShelf<'a, R> {
     // What the opening of a file says: it is there, it is not, or the opening failed.
     fn keep(&mut self, opened: io::Result<R::File>) -> Result<bool, Failed>
         ensures says { result ≡ found opened }
+        ensures left { self.new.left ≡ left_after R.File.remaining opened }
         ensures begins { OnOk result (self.new.given ≡ 0) }
         ensures uncounted { OnErr result (self.new.given ≡ self.old.given) }
         ensures greatest { self.new.most_given ≡ self.old.most_given }
         ensures cause { HasCause self.old.faults self.new.faults result }
     {
-        self.open = None;
+        self.file = None;
         let found = match opened {
             Ok(file) => {
-                self.open = Some(file);
+                self.file = Some(file);
                 true
             }
             Err(error) => self.missing(error.kind())?,
@@ -82,6 +86,7 @@ impl<'a, R: Files> FileShelf<'a, R> {
     // Whether an opening that failed says that there is no such file.
     fn missing(&mut self, kind: ErrorKind) -> Result<bool, Failed>
         ensures says { result ≡ missing kind }
+        ensures left { self.new.left ≡ self.old.left }
         ensures given { self.new.given ≡ self.old.given }
         ensures greatest { self.new.most_given ≡ self.old.most_given }
         ensures cause { HasCause self.old.faults self.new.faults result }
@@ -95,6 +100,7 @@ impl<'a, R: Files> FileShelf<'a, R> {
     // What a read says: each error is a fault, and so no end.
     fn count(&mut self, read: io::Result<usize>) -> Result<usize, Failed>
         ensures says { result ≡ passed_on read }
+        ensures left { self.new.left ≡ self.old.left }
         ensures counts { IfOk result (λ n. self.new.given ≡ many_more self.old.given n) }
         ensures greatest { OnOk result (self.new.most_given ≡ max self.old.most_given self.new.given) }
         ensures uncounted { OnErr result ((self.new.given ≡ self.old.given) × (self.new.most_given ≡ self.old.most_given)) }

@@ -1,5 +1,6 @@
 //! A standard stream, or any other writer, as a sink.
-ghost use Rattle.std.specs.Prelude.{◌≡◌, ◌<◌, ◌≤◌, length, None, IfOk};
+ghost use Rattle.std.specs.Prelude.{◌≡◌, ◌<◌, ◌≤◌, ℕ, length, take, None, IfOk, OnErr};
+ghost use Rattle.std.specs.Io.KnownBytes.{Appends};
 ghost use Rattle.enum_base.specs.Causes.{HasCause};
 ghost use Rattle.adapters.specs.Saying.{taken};
 
@@ -9,8 +10,8 @@ use std::io;
 use std::io::Write;
 use std::marker::Model;
 
-/// A writer. It tells nothing of what it holds, and contracts see it as its count of faults, which
-/// rises at each error.
+/// A writer. As a sink it tells nothing of what it holds. Contracts see what the writer holds, where it is one whose bytes
+/// are known, and the count of faults, which rises at each error.
 #[derive(Drop)]
 pub struct StdSink<W: Write + Drop> {
     writer: W,
@@ -18,17 +19,17 @@ pub struct StdSink<W: Write + Drop> {
 }
 
 impl<W: Write + Drop> Model for StdSink<W> {
-    ghost use Rattle.std.specs.Prelude.{ℕ};
+    ghost use Rattle.adapters.specs.Kept.{SinkKept};
 
-    ghost Value = { ℕ };
+    ghost Value = { SinkKept };
 
-    ghost view = { λ s. s.faults };
+    ghost view = { λ s. record { held = W.contents s.writer; faults = s.faults } };
 }
 
 impl<W: Write + Drop> StdSink<W> {
     /// A sink with no fault counted.
     pub fn new(writer: W) -> Self
-        ensures { result ≡ 0 }
+        ensures { result ≡ record { held = W.contents writer; faults = 0 } }
     {
         StdSink {
             writer,
@@ -38,7 +39,7 @@ impl<W: Write + Drop> StdSink<W> {
 
     /// How many calls failed.
     pub fn faults(&self) -> u64
-        ensures { result ≡ self.now }
+        ensures { result ≡ self.now.faults }
     {
         self.faults.count()
     }
@@ -46,7 +47,8 @@ impl<W: Write + Drop> StdSink<W> {
     // What a write of so many bytes says: a writer that takes none of some has failed.
     fn count(&mut self, written: io::Result<usize>, len: usize) -> Result<usize, Failed>
         ensures says { result ≡ taken len written }
-        ensures cause { HasCause self.old self.new result }
+        ensures held { self.new.held ≡ self.old.held }
+        ensures cause { HasCause self.old.faults self.new.faults result }
     {
         let count = self.faults.pass(written)?;
         if count == 0 && len > 0 {
@@ -57,9 +59,16 @@ impl<W: Write + Drop> StdSink<W> {
 }
 
 impl<W: Write + Drop> Sink for StdSink<W> {
-    ghost state = { λ s. record { held = None; faults = s } };
+    ghost state = { λ s. record { held = None; faults = s.faults } };
 
-    fn write(&mut self, bytes: &[u8]) -> Result<usize, Failed> {
+    /// What the writer took and passed on. Where it fails, it may have taken some bytes from the front.
+    fn write(&mut self, bytes: &[u8]) -> Result<usize, Failed>
+        ensures bound { IfOk result (λ n. n ≤ length bytes.now) }
+        ensures some { IfOk result (λ n. 0 < length bytes.now → 0 < n) }
+        ensures appended { IfOk result (λ n. Appends self.old.held self.new.held (take n bytes.now)) }
+        ensures front { OnErr result ((n : ℕ) × Appends self.old.held self.new.held (take n bytes.now)) }
+        ensures cause { HasCause self.old.faults self.new.faults result }
+    {
         let written = write_through(&mut self.writer, bytes);
         self.count(written, bytes.len())
     }
@@ -67,7 +76,9 @@ impl<W: Write + Drop> Sink for StdSink<W> {
 
 // How many bytes the writer took and passed on.
 fn write_through<W: Write>(writer: &mut W, bytes: &[u8]) -> io::Result<usize>
-    ensures { IfOk result (λ count. count ≤ length bytes.now) }
+    ensures bound { IfOk result (λ count. count ≤ length bytes.now) }
+    ensures appended { IfOk result (λ count. Appends (W.contents writer.old) (W.contents writer.new) (take count bytes.now)) }
+    ensures front { OnErr result ((n : ℕ) × Appends (W.contents writer.old) (W.contents writer.new) (take n bytes.now)) }
 {
     let count = writer.write(bytes)?;
     writer.flush()?;

@@ -25,21 +25,23 @@ pub fn print_source(source: &Listed, out: &mut Bytes) -> Result<(), MemoryFault>
     push_number(source.cache.fetched(), out)
 }
 
+// With several keys the place of the key stands in front of a derivation.
 pub fn print_answer(
     answer: &Result<Report, WalkFault>,
+    several: bool,
     out: &mut Bytes,
 ) -> Result<(), MemoryFault> {
     match answer {
         Ok(Report::Ends(ends)) => {
             for end in ends.as_slice() {
-                print_end(end, out)?;
+                print_end(end, several, out)?;
             }
             push(out, "\nend ")?;
             push_number(ends.as_slice().len() as u64, out)
         }
         Ok(Report::Loop(path)) => {
             push(out, "\nloop ")?;
-            push_ranks(path.ranks.as_slice(), out)?;
+            push_path(path.place, path.ranks.as_slice(), several, out)?;
             push_names(path.domains.as_slice(), out)
         }
         Err(WalkFault::Limit { asked }) => {
@@ -52,9 +54,9 @@ pub fn print_answer(
 }
 
 // The derivation of an end, its domain, the ORDER and PREFERENCE of its rule, and its outcome.
-fn print_end(end: &End, out: &mut Bytes) -> Result<(), MemoryFault> {
+fn print_end(end: &End, several: bool, out: &mut Bytes) -> Result<(), MemoryFault> {
     push(out, "\n")?;
-    push_ranks(end.ranks.as_slice(), out)?;
+    push_path(end.place, end.ranks.as_slice(), several, out)?;
     push_names(&[end.domain], out)?;
     if let Some(rule) = &end.rule {
         push(out, " ")?;
@@ -89,13 +91,22 @@ fn push_uri(uri: &[u8], out: &mut Bytes) -> Result<(), MemoryFault> {
     push_number(uri.len() as u64, out)
 }
 
-// Ranks with dots between them, and `-` for none.
-fn push_ranks(ranks: &[u32], out: &mut Bytes) -> Result<(), MemoryFault> {
+// The place where there are several, and the ranks, with dots between them; `-` where there is nothing.
+fn push_path(place: u8, ranks: &[u32], several: bool, out: &mut Bytes) -> Result<(), MemoryFault> {
+    if several {
+        push_number(u64::from(place), out)?;
+        return push_further(ranks, out);
+    }
     let Some((first, rest)) = ranks.split_first() else {
         return push(out, "-");
     };
     push_number(u64::from(*first), out)?;
-    for rank in rest {
+    push_further(rest, out)
+}
+
+// Each rank after a dot.
+fn push_further(ranks: &[u32], out: &mut Bytes) -> Result<(), MemoryFault> {
+    for rank in ranks {
         push(out, ".")?;
         push_number(u64::from(*rank), out)?;
     }

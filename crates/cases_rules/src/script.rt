@@ -9,10 +9,11 @@
 //! - `kept NAME`: the source keeps this name; it keeps two. `trouble N`: it has trouble at its ask N.
 //! - `layers N`: N layers of two domains, `a1.` and `b1.` and so on, under `a0.`, each with a step to both of the next
 //!   layer; the last `a` has one terminal rule.
-//! - `find KEY LIMIT` walks, and prints what was found: a line for each end, with its derivation, domain, ORDER, PREFERENCE
-//!   and outcome, and their number; or the loop, with its derivation and domains; or the refusal. A URI of more than 255
-//!   bytes is told by its length.
-//! - `walk KEY LIMIT` prints before it the domains that were asked, in order, and what the source keeps and counts.
+//! - `find KEYS LIMIT` walks from 1 to 8 keys with `,` between them, and prints what was found: a line for each end, with
+//!   its derivation, domain, ORDER, PREFERENCE and outcome, and their number; or the loop, with its derivation and domains;
+//!   or the refusal. With several keys a derivation has the place of its key in front. A URI of more than 255 bytes is told
+//!   by its length.
+//! - `walk KEYS LIMIT` prints before it the domains that were asked, in order, and what the source keeps and counts.
 //!
 //! In a field `-` is no bytes.
 ghost use Rattle.std.specs.Prelude.{◌<◌};
@@ -108,21 +109,21 @@ impl Script {
         self.source.places.push(Place { owner, item })
     }
 
-    // Walks from a key, and tells what it found.
+    // Walks from keys, and tells what it found.
     fn find(&mut self, alloc: Global, rest: &str) -> Result<String, MemoryFault> {
         let answer = self.answer(alloc, rest)?;
         let mut out = Bytes::new(alloc);
-        print_answer(&answer, &mut out)?;
+        print_answer(&answer, rest.contains(','), &mut out)?;
         text_of(alloc, out.as_slice())
     }
 
-    // Walks from a key, and tells whom it asked, what the source keeps and counts, and what it found.
+    // Walks from keys, and tells whom it asked, what the source keeps and counts, and what it found.
     fn walk(&mut self, alloc: Global, rest: &str) -> Result<String, MemoryFault> {
         self.source.asked = Names::new(alloc);
         let answer = self.answer(alloc, rest)?;
         let mut out = Bytes::new(alloc);
         print_source(&self.source, &mut out)?;
-        print_answer(&answer, &mut out)?;
+        print_answer(&answer, rest.contains(','), &mut out)?;
         text_of(alloc, out.as_slice())
     }
 
@@ -131,8 +132,8 @@ impl Script {
         alloc: Global,
         rest: &str,
     ) -> Result<Result<Report, WalkFault>, MemoryFault> {
-        let (key, limit) = rest.split_once(' ').unwrap_or((rest, ""));
-        let (key, limit) = (&named(alloc, key)?, number_of(limit));
+        let (keys, limit) = rest.split_once(' ').unwrap_or((rest, ""));
+        let (keys, limit) = (keys_of(alloc, keys)?, number_of(limit));
         let string = Text255::from_bytes(self.string.as_slice()).ok_or(MemoryFault)?;
         let wanted = match self.wanted.as_slice() {
             [] => Wanted::Any,
@@ -144,7 +145,7 @@ impl Script {
                 &Always { kind },
                 wanted,
                 &string,
-                key,
+                keys.as_slice(),
                 &mut self.source,
                 limit,
             ),
@@ -153,7 +154,7 @@ impl Script {
                 &EnumApp,
                 wanted,
                 &string,
-                key,
+                keys.as_slice(),
                 &mut self.source,
                 limit,
             ),
@@ -161,17 +162,29 @@ impl Script {
     }
 }
 
-// The walk, with a limit of at least 1.
+// The walk, with a limit of at least 1. A case has from 1 to 8 keys.
 fn walked<P: DddsApp>(
     alloc: Global,
     app: &P,
     wanted: Wanted<'_>,
     string: &Text255,
-    key: &Name,
+    keys: &[Name],
     source: &mut Listed,
     limit: u32,
 ) -> Result<Report, WalkFault> {
-    walk(alloc, app, wanted, string, key, source, limit.max(1))
+    if keys.is_empty() || keys.len() > 8 {
+        return Err(WalkFault::Memory);
+    }
+    walk(alloc, app, wanted, string, keys, source, limit.max(1))
+}
+
+// The keys of a field, with `,` between them.
+fn keys_of(alloc: Global, text: &str) -> Result<Names, MemoryFault> {
+    let mut keys = Names::new(alloc);
+    for key in text.split(',') {
+        keys.push(named(alloc, key)?)?;
+    }
+    Ok(keys)
 }
 
 fn kind_of(text: &str) -> Option<Kind> {

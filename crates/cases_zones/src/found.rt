@@ -1,29 +1,18 @@
 //! What zones answer.
 
-use crate::records::push_records;
+use cases_records::{case_of, push_records, records_found};
 use cases_text::text_of;
 use dns_name::Name;
 use dns_wire::Record;
 use enum_base::{Bytes, MemoryFault};
 use naptr_data::{Naptr, Offer, RuleSource, SourceFault};
 use std::alloc::Global;
-use std::slice::from_ref;
 use zone_db::{Found, Zone, ZoneSet, ZoneSource};
 
-/// What a look-up finds.
+/// What a look-up finds: the case, and the records.
 pub fn found_text(alloc: Global, found: Found<'_>) -> Result<String, MemoryFault> {
-    match found {
-        Found::Outside => Ok("\noutside".to_string(alloc)?),
-        Found::Cut(set) => set_text(alloc, "cut", set),
-        Found::Alias(set) => set_text(alloc, "alias", set),
-        Found::Set(set) => set_text(alloc, "set", set),
-        Found::NoSet(soa) => set_text(alloc, "no set", from_ref(soa)),
-        Found::NoName(soa) => set_text(alloc, "no name", from_ref(soa)),
-    }
-}
-
-fn set_text(alloc: Global, case: &str, set: &[Record]) -> Result<String, MemoryFault> {
-    let records = records_text(alloc, set)?;
+    let case = case_of(&found);
+    let records = records_text(alloc, records_found(found))?;
     Ok(format!(in alloc; "\n{case}{records}")?)
 }
 

@@ -9,9 +9,12 @@
 //! - `zones`: the apexes of the set, and how many rules and CNAMEs it holds.
 //! - `deciding NAME`: the apex of the zone that decides. `set NAME KIND`: the records of that kind there, in that zone.
 //! - `look NAME KIND`: what is found. `offer NAME`: what the zones offer as a source of rules.
+//! - `looks FROM TO NAME KIND`: how often each case was found, with a number a look-up, which stands for `%` in
+//!   the name.
 
 use crate::found::{apex_text, found_text, offer_text, records_text};
-use crate::texts::{PIECE, counted, push_fault, read, told};
+use crate::texts::{PIECE, counted, push_fault, refused, told};
+use cases_records::{Tally, read_records};
 use cases_text::{bytes_of, name_of, number_of, push_lines, text_of};
 use dns_name::Name;
 use enum_base::{Bytes, MemoryFault};
@@ -49,6 +52,8 @@ impl Script {
             "text" => return told(alloc, self.origin, rest),
             "many" => return counted(alloc, self.origin, rest, PIECE),
             "once" => return counted(alloc, self.origin, rest, usize::MAX),
+            "refused" => return refused(alloc, self.origin, rest),
+            "looks" => return self.look_often(alloc, rest),
             "build" | "make" => return self.build(alloc, verb),
             "add" => return self.add(alloc),
             "fill" => return self.fill(alloc, rest),
@@ -65,7 +70,7 @@ impl Script {
     // Builds the zone of the records.
     fn build(&mut self, alloc: Global, verb: &str) -> Result<String, MemoryFault> {
         let lines = std::mem::replace(&mut self.lines, Bytes::new(alloc));
-        let records = match read(alloc, Name::root(), lines.as_slice(), PIECE) {
+        let records = match read_records(alloc, Name::root(), lines.as_slice(), PIECE) {
             Ok(records) => records,
             Err(fault) => return text_fault(alloc, &fault),
         };
@@ -133,6 +138,21 @@ impl Script {
                 None => Ok("\nnone".to_string(alloc)?),
             },
         }
+    }
+
+    // Look-ups of names that differ by a number.
+    fn look_often(&self, alloc: Global, rest: &str) -> Result<String, MemoryFault> {
+        let mut lines = Bytes::new(alloc);
+        push_lines(alloc, &mut lines, rest)?;
+        let lines = text_of(alloc, lines.as_slice())?;
+        let mut tally = Tally::new();
+        for line in lines.lines() {
+            let (text, kind) = line.split_once(' ').unwrap_or((line, ""));
+            let name = name_of(alloc, text)?.unwrap_or(Name::root());
+            let kind = number_of(kind).min(65_535) as u16;
+            tally.count(&self.zones.lookup(&name, kind));
+        }
+        Ok(format!(in alloc; "\n{}", tally.told(alloc)?)?)
     }
 
     fn list(&self, alloc: Global) -> Result<String, MemoryFault> {

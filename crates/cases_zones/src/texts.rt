@@ -1,11 +1,9 @@
 //! Zone texts. `text TEXT` is fed whole and then byte by byte, and the lines of its records are read again; where another
 //! answer comes there, it is told too. `many TEXT` is fed in larger pieces, and `once TEXT` in one, and the number of its
-//! records is told.
-ghost use Rattle.std.specs.Prelude.{IfOk, Contains};
-ghost use Rattle.dns_wire.specs.declared.record.Record as spec;
-ghost use Rattle.zone_build.specs.Zone.{IsPlain};
+//! records is told. `refused TEXT` is fed byte by byte up to the first feed that refuses: how many bytes that were, its fault,
+//! and the answer at the end.
 
-use crate::records::push_folded;
+use cases_records::{push_folded, read_records, records_of};
 use cases_text::{bytes_of, text_of};
 use dns_name::Name;
 use dns_wire::Records;
@@ -20,11 +18,14 @@ pub const PIECE: usize = 65_536;
 /// too.
 pub fn told(alloc: Global, origin: Name, text: &str) -> Result<String, MemoryFault> {
     let bytes = bytes_of(alloc, text)?;
-    let said = read(alloc, origin, bytes.as_slice(), bytes.as_slice().len());
+    let said = read_records(alloc, origin, bytes.as_slice(), bytes.as_slice().len());
     let mut whole = Bytes::new(alloc);
     push_answer(&mut whole, &said)?;
     let mut parts = Bytes::new(alloc);
-    push_answer(&mut parts, &read(alloc, origin, bytes.as_slice(), 1))?;
+    push_answer(
+        &mut parts,
+        &read_records(alloc, origin, bytes.as_slice(), 1),
+    )?;
     push_other(&mut whole, b"  byte by byte:\n", &parts)?;
     if let Ok(records) = &said {
         let again = told_again(alloc, records)?;
@@ -47,7 +48,7 @@ fn told_again(alloc: Global, records: &Records) -> Result<Bytes, MemoryFault> {
     let mut lines = Bytes::new(alloc);
     push_folded(&mut lines, b"", records.as_slice())?;
     let mut told = Bytes::new(alloc);
-    let said = read(alloc, Name::root(), lines.as_slice(), PIECE);
+    let said = read_records(alloc, Name::root(), lines.as_slice(), PIECE);
     push_answer(&mut told, &said)?;
     Ok(told)
 }
@@ -61,10 +62,26 @@ pub fn counted(
 ) -> Result<String, MemoryFault> {
     let bytes = bytes_of(alloc, text)?;
     let mut told = Bytes::new(alloc);
-    match read(alloc, origin, bytes.as_slice(), size) {
+    match read_records(alloc, origin, bytes.as_slice(), size) {
         Ok(records) => push_number(b"  records ", records.as_slice().len(), &mut told)?,
         Err(fault) => push_fault(&mut told, &fault)?,
     }
+    lines_of(alloc, &told)
+}
+
+/// The feed that refuses a text that is fed byte by byte, and what is told at its end.
+pub fn refused(alloc: Global, origin: Name, text: &str) -> Result<String, MemoryFault> {
+    let bytes = bytes_of(alloc, text)?;
+    let mut told = Bytes::new(alloc);
+    let mut reader = ZoneReader::new(alloc, origin);
+    for (place, byte) in bytes.as_slice().iter().enumerate() {
+        if let Err(fault) = reader.feed(&[*byte]) {
+            push_number(b"  byte ", place, &mut told)?;
+            push_fault(&mut told, &fault)?;
+            break;
+        }
+    }
+    push_answer(&mut told, &records_of(reader))?;
     lines_of(alloc, &told)
 }
 
@@ -74,26 +91,6 @@ fn lines_of(alloc: Global, lines: &Bytes) -> Result<String, MemoryFault> {
     let mut told = "\n".to_string(alloc)?;
     told.push_str(text.trim_end())?;
     Ok(told)
-}
-
-/// The records of a text that is fed in pieces of so many bytes.
-pub fn read(alloc: Global, origin: Name, text: &[u8], size: usize) -> Result<Records, TextFault>
-    ensures plain { IfOk result (λ records. (one : spec.Record) → Contains records one → IsPlain one) }
-{
-    let mut reader = ZoneReader::new(alloc, origin);
-    for piece in text.chunks(size.max(1)) {
-        if reader.feed(piece).is_err() {
-            return records_of(reader);
-        }
-    }
-    records_of(reader)
-}
-
-#[tactic(auto, using(crate::proofs::PlainLemmas::plain))]
-fn records_of(reader: ZoneReader) -> Result<Records, TextFault>
-    ensures plain { IfOk result (λ records. (one : spec.Record) → Contains records one → IsPlain one) }
-{
-    reader.end()
 }
 
 // Appends the lines of the records, or the fault.

@@ -31,7 +31,9 @@ Options of resolve, in any order:
                 origin up to its first $ORIGIN
   --want LIST   services that are wanted, as sip or email:mailto,web; of a
                 domain as sip+d2t or lost:https
-  --apex NAME   the domain under which numbers stand (e164.arpa.); enum alone
+  --apex NAME   a domain under which numbers stand (e164.arpa.); enum alone, up to
+                8 times. Where it stands more than once, a path has its place,
+                from 0, before the ranks
 
 Exit statuses:
   0  done: there is an end or more, or the message was printed

@@ -3,8 +3,7 @@ use Rattle.std.proofs.Common.{◌≡◌, ℕ, ◌≤◌, ◌⊎◌, List, [], �
 use Rattle.std.specs.Prelude.{Contains}
 use Rattle.ddds_walk.specs.Graph.{Graph, Leads, Passes}
 use Rattle.ddds_walk.specs.Order.{Less}
-use Rattle.ddds_walk.specs.Report.{IsLoop, IsLeastLoop, HasNoLoop, IsNeeded}
-use Rattle.ddds_walk.specs.Ways.{Mark, Found, EndsAs, marks_of, Walked}
+use Rattle.ddds_walk.specs.Ways.{Mark, Found, EndsAs, IsRound, IsLeastRound, HasNoRound, IsMet, marks_of, Walked}
 use Rattle.naptr_data.specs.Sources.{AreDistinct}
 use Rattle.ddds_walk.proofs.Order.{less_cases, rank_cases}
 use Rattle.ddds_walk.proofs.Elements.{has_none, has_cons, has_map}
@@ -14,7 +13,7 @@ use Rattle.ddds_walk.specs.Ways.{IsGraph}
 module _ {V : Type 0} (g : Graph V) (laws : IsGraph g) (key : V) (done : List V) (found : List (Found V))
     (path : List ℕ) (next : ℕ) (top : V) (w : Walked g key done found path next top) where
   -- no loop is below the cursor
-  pub no_loop_below : (ls : List ℕ) (ds : List V) (d : V) → IsLoop g key ls ds d → Less ls (path ++ next ∷ []) → ⊥
+  pub no_loop_below : (ls : List ℕ) (ds : List V) (d : V) → IsRound g key ls ds d → Less ls (path ++ next ∷ []) → ⊥
   no_loop_below ls ds d l h =
       let (a, r, b, e, x, y) = passes_cut g laws ls key d ds l.passes l.leads l.again in
       w.simple a r b d x y (subst (λ v. Less v (path ++ next ∷ [])) e h)
@@ -22,7 +21,7 @@ module _ {V : Type 0} (g : Graph V) (laws : IsGraph g) (key : V) (done : List V)
   -- the edge at the cursor leads back to a domain on the path: it closes the least loop
   pub least_loop : (ds : List V) (m : V) → Passes g key path ds → AreDistinct (ds ++ top ∷ [])
       → g.Steps top next m → Contains (ds ++ top ∷ []) m
-      → IsLeastLoop g key (path ++ next ∷ []) (ds ++ top ∷ []) m
+      → IsLeastRound g key (path ++ next ∷ []) (ds ++ top ∷ []) m
   least_loop ds m p u s h = record {
     loop = record {
       leads = leads_join g path (next ∷ []) key top m w.here (m, s, refl);
@@ -42,13 +41,13 @@ module _ {V : Type 0} (g : Graph V) (laws : IsGraph g) (key : V) (done : List V)
 
   -- the domain to which the edge at the cursor leads is needed, where it is not on the path
   pub next_needed : (ds : List V) (m : V) → Passes g key path ds → g.Steps top next m
-      → (Contains (ds ++ top ∷ []) m → ⊥) → IsNeeded g key m
+      → (Contains (ds ++ top ∷ []) m → ⊥) → IsMet g key m
   next_needed ds m p s new = (path ++ next ∷ [], to_m, λ ls es x i. by ls es x i (less_cases ls (path ++ next ∷ [])))
     where
       to_m : Leads g key (path ++ next ∷ []) m
       to_m = leads_join g path (next ∷ []) key top m w.here (m, s, refl)
 
-      not_here : (ls : List ℕ) (es : List V) (x : V) → IsLoop g key ls es x → ls ≡ path ++ next ∷ [] → ⊥
+      not_here : (ls : List ℕ) (es : List V) (x : V) → IsRound g key ls es x → ls ≡ path ++ next ∷ [] → ⊥
       not_here ls es x i e =
           let j : Passes g key (path ++ next ∷ []) es = subst (λ v. Passes g key v es) e i.passes in
           let es-is : es ≡ ds ++ top ∷ [] =
@@ -58,7 +57,7 @@ module _ {V : Type 0} (g : Graph V) (laws : IsGraph g) (key : V) (done : List V)
           let P : V → Type 0 = λ v. Contains (ds ++ top ∷ []) v in
           new (subst P x-is (subst (λ v. Contains v x) es-is i.again))
 
-      by : (ls : List ℕ) (es : List V) (x : V) → IsLeastLoop g key ls es x
+      by : (ls : List ℕ) (es : List V) (x : V) → IsLeastRound g key ls es x
           → Less ls (path ++ next ∷ []) ⊎ ((ls ≡ path ++ next ∷ []) ⊎ Less (path ++ next ∷ []) ls)
           → Less (path ++ next ∷ []) ls
       by ls es x i (inl k) = absurd (no_loop_below ls es x i.loop k)
@@ -78,7 +77,7 @@ module _ {V : Type 0} (g : Graph V) (laws : IsGraph g) (key : V) (done : List V)
 
   -- where the cursor is at the least loop, each needed domain was met
   pub needed_met : (ds es : List V) (d x : V) → Passes g key path ds
-      → IsLeastLoop g key (path ++ next ∷ []) es x → IsNeeded g key d → Contains done d ⊎ Contains (ds ++ top ∷ []) d
+      → IsLeastRound g key (path ++ next ∷ []) es x → IsMet g key d → Contains done d ⊎ Contains (ds ++ top ∷ []) d
   needed_met ds es d x p i n = met_below ds n.0 d p n.1 (n.2 (path ++ next ∷ []) es x i)
 
 -- at the end: the path is empty, and all edges of the key were tried
@@ -105,7 +104,7 @@ module _ {V : Type 0} (g : Graph V) (laws : IsGraph g) (key : V) (done : List V)
       by (inl h) = h
       by (inr (r, us, h, e)) = absurd (no r us h (subst (λ v. EndsAs g key v mark) e l))
 
-  pub no_loop : HasNoLoop g key
+  pub no_loop : HasNoRound g key
   no_loop ls ds d l = no_loop_below g laws key done found [] next key w ls ds d l (all_below ls d l.leads)
 
   -- each end's mark was found

@@ -4,7 +4,7 @@ use Rattle.std.specs.Prelude.{Contains, Ok, Err, IsTrue}
 use Rattle.std.proofs.lemmas.List.{length-append}
 use Rattle.enum_base.specs.Causes.{Rose, one_more}
 use Rattle.enum_base.specs.Outside.{WhereTold}
-use Rattle.naptr_data.specs.Sources.{SourceState, AreDistinct, HasFewRules, BringsToFront, Fetches, AreKept}
+use Rattle.naptr_data.specs.Sources.{RuleSourceState, AreDistinct, HasFewRules, BringsToFront, Fetches, AreKept}
 use Rattle.naptr_data.specs.Zones.{Labels, IsOffer}
 use Rattle.naptr_data.specs.declared.offer.Offer.{Offer}
 use Rattle.ddds_walk.specs.Asking.{more}
@@ -14,7 +14,7 @@ use Rattle.ddds_walk.specs.declared.fault.WalkFault.TheVariants.{Trouble, Memory
 use Rattle.ddds_walk.proofs.Elements.{distinct_push}
 use Rattle.ddds_walk.proofs.Kept.{kept_more, asks_more}
 
-module _ (limit : ℕ) (t u : SourceState) (asked asked' : List Labels) (next : Labels)
+module _ (limit : ℕ) (t u : RuleSourceState) (asked asked' : List Labels) (next : Labels)
     (once : AreDistinct asked) (room_left : length asked < limit) (new : ¬ Contains asked next) (grew : asked' ≡ asked ++ next ∷ [])
     (zones : u.zones ≡ t.zones) (room : u.room ≡ t.room) (lent : u.lent ≡ t.lent) (later : t.troubles ≤ u.troubles)
     (asks : u.asks ≡ one_more t.asks) where

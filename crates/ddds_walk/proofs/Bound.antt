@@ -1,5 +1,5 @@
--- At most one domain more is needed than the zones hold rules and aliases: each but the key is what one of these gives.
-use Rattle.std.proofs.Common.{◌≡◌, ℕ, zero, suc, ◌+◌, ◌≤◌, ◌⊎◌, List, [], ◌∷◌, ◌++◌, length, map, Option, Some, None}
+-- At most so many domains are needed as there are rules, aliases and keys: each is a key, or what one of these gives.
+use Rattle.std.proofs.Common.{◌≡◌, ℕ, zero, suc, ◌+◌, ◌≤◌, ◌⊎◌, List, [], ◌∷◌, ◌++◌, length, map, Some}
 use Rattle.std.proofs.Common.{refl, sym, ◌∙◌, ap, subst, inl, inr, arith}
 use Rattle.std.specs.Prelude.{Contains, slice_get}
 use Rattle.std.proofs.lemmas.List.Elements.{Contains-append_left, Contains-append_right, Contains-append_cases}
@@ -9,12 +9,12 @@ use Rattle.naptr_data.specs.Zones.{Labels, Item, Owned, Zone, IsOffer, holds_one
 use Rattle.naptr_data.specs.Zones.Item.{rule, alias, delegation, other}
 use Rattle.naptr_data.specs.declared.offer.Offer.{Offer}
 use Rattle.naptr_data.specs.declared.offer.Offer.TheVariants as offer
-use Rattle.naptr_rule.specs.declared.rule.Naptr.{Naptr}
 use Rattle.naptr_data.proofs.OfferLemmas.{decides_among, alias_stands}
 use Rattle.subst_expr.specs.Laws.{OneOutput}
 use Rattle.ddds_walk.specs.declared.edge.Edge.TheVariants.{Step}
 use Rattle.ddds_walk.specs.Graph.{Graph, graph_of, Leads}
 use Rattle.ddds_walk.specs.Rules.{Client, Gives, IsEdgeOf}
+use Rattle.ddds_walk.specs.Asking.{Holds}
 use Rattle.ddds_walk.specs.Report.{AreSomeNeeded}
 use Rattle.ddds_walk.proofs.Elements.{has_none, has_cons, has_head, has_tail, has_same, has_cut, has_map}
 use Rattle.ddds_walk.proofs.Told.{one_gift}
@@ -68,14 +68,14 @@ BringsDomain c (alias target) d = d ≡ folded_labels target
 BringsDomain c delegation d = ⊥
 BringsDomain c other d = ⊥
 
--- the key, or what an item gives
-abbrev Brings : Client → Labels → Option Owned → Labels → Type 0
-Brings c key None d = key ≡ d
-Brings c key (Some o) d = BringsDomain c o.item d
+-- a key, or what an item gives
+abbrev Brings : Client → Labels ⊎ Owned → Labels → Type 0
+Brings c (inl key) d = key ≡ d
+Brings c (inr o) d = BringsDomain c o.item d
 
-abbrev count : Option Owned → ℕ
-count None = 1
-count (Some o) = holds_one o.item
+abbrev count : Labels ⊎ Owned → ℕ
+count (inl key) = 1
+count (inr o) = holds_one o.item
 
 one_domain : OneOutput → (c : Client) (i : Item) (d e : Labels) → BringsDomain c i d → BringsDomain c i e → d ≡ e
 one_domain out c (rule r) d e a b = let s : Step d ≡ Step e = one_gift out c r (Step d) (Step e) a b in cc
@@ -83,9 +83,9 @@ one_domain out c (alias target) d e a b = a ∙ sym b
 one_domain out c delegation d e a b = absurd a
 one_domain out c other d e a b = absurd a
 
-one_brought : OneOutput → (c : Client) (key : Labels) (x : Option Owned) (d e : Labels) → Brings c key x d → Brings c key x e → d ≡ e
-one_brought out c key None d e a b = sym a ∙ b
-one_brought out c key (Some o) d e a b = one_domain out c o.item d e a b
+one_brought : OneOutput → (c : Client) (x : Labels ⊎ Owned) (d e : Labels) → Brings c x d → Brings c x e → d ≡ e
+one_brought out c (inl key) d e a b = sym a ∙ b
+one_brought out c (inr o) d e a b = one_domain out c o.item d e a b
 
 holds_some : (c : Client) (i : Item) (d : Labels) → BringsDomain c i d → 1 ≤ holds_one i
 holds_some c (rule r) d a = omega arith
@@ -93,9 +93,9 @@ holds_some c (alias target) d a = omega arith
 holds_some c delegation d a = absurd a
 holds_some c other d a = absurd a
 
-counted : (c : Client) (key : Labels) (x : Option Owned) (d : Labels) → Brings c key x d → 1 ≤ count x
-counted c key None d a = omega arith
-counted c key (Some o) d a = holds_some c o.item d a
+counted : (c : Client) (x : Labels ⊎ Owned) (d : Labels) → Brings c x d → 1 ≤ count x
+counted c (inl key) d a = omega arith
+counted c (inr o) d a = holds_some c o.item d a
 
 abbrev items_of : List Zone → List Owned
 items_of [] = []
@@ -109,7 +109,7 @@ has_items (z ∷ zones) zone o h i = by (λ k. has_items zones zone o k i) (has_
     by f (inl e) = Contains-append_left z.items (items_of zones) o (subst (λ (v : Zone). Contains v.items o) (sym e) i)
     by f (inr k) = Contains-append_right z.items (items_of zones) o (f k)
 
-has_get : (xs : List Naptr) (n : ℕ) (x : Naptr) → slice_get xs n ≡ Some x → Contains xs x
+has_get : {X : Type 0} (xs : List X) (n : ℕ) (x : X) → slice_get xs n ≡ Some x → Contains xs x
 has_get [] n x e = cc
 has_get (y ∷ xs) zero x e = let f : y ≡ x = cc in has_same (y ∷ xs) y x f (has_head xs y)
 has_get (y ∷ xs) (suc n) x e = has_tail xs y x (has_get xs n x e)
@@ -144,13 +144,17 @@ leads_from_step {V} g Goes all (r ∷ rs) k d (m, s, l) = inr (by (leads_from_st
     by (inl e) = subst Goes e (all k r m s)
     by (inr h) = h
 
-abbrev sources : List Zone → List (Option Owned)
-sources zones = None ∷ map (λ o. Some o) (items_of zones)
+abbrev sources : List Labels → List Zone → List (Labels ⊎ Owned)
+sources names zones = map (λ name. inl name) names ++ map (λ o. inr o) (items_of zones)
 
-total_items : (out : OneOutput) (c : Client) (key : Labels) (os : List Owned)
-    → total (Brings c key) count (one_brought out c key) (counted c key) (map (λ o. Some o) os) ≡ rules_and_aliases_in os
-total_items out c key [] = refl
-total_items out c key (o ∷ os) = ap (λ v. holds_one o.item + v) (total_items out c key os)
+module _ (out : OneOutput) (c : Client) where
+  total_keys : (names : List Labels) → total (Brings c) count (one_brought out c) (counted c) (map (λ name. inl name) names) ≡ length names
+  total_keys [] = refl
+  total_keys (name ∷ names) = let h = total_keys names in omega arith
+
+  total_items : (os : List Owned) → total (Brings c) count (one_brought out c) (counted c) (map (λ o. inr o) os) ≡ rules_and_aliases_in os
+  total_items [] = refl
+  total_items (o ∷ os) = ap (λ v. holds_one o.item + v) (total_items os)
 
 items_append : (xs ys : List Owned) → rules_and_aliases_in (xs ++ ys) ≡ rules_and_aliases_in xs + rules_and_aliases_in ys
 items_append [] ys = omega arith
@@ -161,21 +165,37 @@ all_items : (zones : List Zone) → rules_and_aliases_in (items_of zones) ≡ ru
 all_items [] = refl
 all_items (zone ∷ zones) = items_append zone.items (items_of zones) ∙ ap (λ v. rules_and_aliases_in zone.items + v) (all_items zones)
 
-pub needed_bound : OneOutput → (c : Client) (zones : List Zone) (key : Labels) (ds : List Labels)
-    → AreSomeNeeded (graph_of c zones) key ds → length ds ≤ rules_and_aliases zones + 1
-needed_bound out c zones key ds n =
-    let fit : length ds ≤ total (Brings c key) count (one_brought out c key) (counted c key) (sources zones) =
-    brought_fit (Brings c key) count (one_brought out c key) (counted c key) ds (sources zones) n.once from in
-    let all : total (Brings c key) count (one_brought out c key) (counted c key) (map (λ o. Some o) (items_of zones)) ≡ rules_and_aliases zones =
-    total_items out c key (items_of zones) ∙ all_items zones in
+pub needed_bound : OneOutput → (c : Client) (zones : List Zone) (keys names ds : List Labels) → Holds names keys
+    → AreSomeNeeded (graph_of c zones) keys ds → length ds ≤ rules_and_aliases zones + length names
+needed_bound out c zones keys names ds held n =
+    let fit : length ds ≤ total (Brings c) count (one_brought out c) (counted c) (sources names zones) =
+    brought_fit (Brings c) count (one_brought out c) (counted c) ds (sources names zones) n.once from in
+    let both : total (Brings c) count (one_brought out c) (counted c) (sources names zones)
+    ≡ total (Brings c) count (one_brought out c) (counted c) (map (λ name. inl name) names)
+    + total (Brings c) count (one_brought out c) (counted c) (map (λ o. inr o) (items_of zones)) =
+    total_append (Brings c) count (one_brought out c) (counted c) (map (λ name. inl name) names) (map (λ o. inr o) (items_of zones)) in
+    let some : total (Brings c) count (one_brought out c) (counted c) (map (λ name. inl name) names) ≡ length names = total_keys out c names in
+    let all : total (Brings c) count (one_brought out c) (counted c) (map (λ o. inr o) (items_of zones)) ≡ rules_and_aliases zones =
+    total_items out c (items_of zones) ∙ all_items zones in
     omega arith
   where
-    from : (d : Labels) → Contains ds d → (x : Option Owned) × Contains (sources zones) x × Brings c key x d
-    from d h = by (leads_from_step (graph_of c zones) (λ m. (x : Owned) × Contains (items_of zones) x × BringsDomain c x.item m)
-        (λ a r m s. step_from c zones a r m s.0 s.1 s.2) (n.only d h).0 key d (n.only d h).1)
+    from : (d : Labels) → Contains ds d → (x : Labels ⊎ Owned) × Contains (sources names zones) x × Brings c x d
+    from d h = let (way, (key, at, l), rest) = n.only d h in
+        by key at (leads_from_step (graph_of c zones) (λ m. (x : Owned) × Contains (items_of zones) x × BringsDomain c x.item m)
+        (λ a r m s. step_from c zones a r m s.0 s.1 s.2) way.ranks key d l)
       where
-        by : (key ≡ d) ⊎ ((x : Owned) × Contains (items_of zones) x × BringsDomain c x.item d)
-            → (x : Option Owned) × Contains (sources zones) x × Brings c key x d
-        by (inl e) = (None, has_head (map (λ o. Some o) (items_of zones)) None, e)
-        by (inr (x, k, b)) =
-            (Some x, has_tail (map (λ o. Some o) (items_of zones)) None (Some x) (has_map (λ (o : Owned). Some o) (items_of zones) x k), b)
+        by : (key : Labels) → slice_get keys (n.only d h).0.place ≡ Some key
+            → (key ≡ d) ⊎ ((x : Owned) × Contains (items_of zones) x × BringsDomain c x.item d)
+            → (x : Labels ⊎ Owned) × Contains (sources names zones) x × Brings c x d
+        by key at (inl e) = (
+          inl key,
+          Contains-append_left (map (λ name. inl name) names) (map (λ o. inr o) (items_of zones)) (inl key)
+              (has_map (λ (name : Labels). inl name) names key (held key (has_get keys (n.only d h).0.place key at))),
+          e,
+        )
+        by key at (inr (x, k, b)) = (
+          inr x,
+          Contains-append_right (map (λ name. inl name) names) (map (λ o. inr o) (items_of zones)) (inr x)
+              (has_map (λ (o : Owned). inr o) (items_of zones) x k),
+          b,
+        )

@@ -39,7 +39,7 @@ module _ {X : Type 0} where
       let b : length ys ≤ length xs = distinct_fits ys xs e k in
       omega arith
 
-module _ {V : Type 0} (g : Graph V) (key : V) where
+module _ {V : Type 0} (g : Graph V) (keys : List V) where
   -- the number of needed domains does not depend on how they are listed
-  pub needed_count : (ds es : List V) → AreNeeded g key ds → AreNeeded g key es → length ds ≡ length es
+  pub needed_count : (ds es : List V) → AreNeeded g keys ds → AreNeeded g keys es → length ds ≡ length es
   needed_count ds es a b = equally_long ds es a.some.once b.some.once (λ d k. b.all d (a.some.only d k)) (λ d k. a.all d (b.some.only d k))

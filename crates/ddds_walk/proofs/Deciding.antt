@@ -66,15 +66,15 @@ all_pass p xs = by (is_true (list_all p xs))
     by (inr no_all) = inr (λ h. no_all (list_all-from_AllPass p xs h))
 
 -- bytes are cut at a first colon, or have none
-abbrev IsCut : List ℕ → Type 0
-IsCut bytes = (front back : List ℕ) × (bytes ≡ front ++ 58 ∷ back) × (list_all (λ b. not (b == 58)) front ≡ true)
+abbrev HasColon : List ℕ → Type 0
+HasColon bytes = (front back : List ℕ) × (bytes ≡ front ++ 58 ∷ back) × (list_all (λ b. not (b == 58)) front ≡ true)
 
-cut_or_plain : (bytes : List ℕ) → IsCut bytes ⊎ (list_all (λ b. not (b == 58)) bytes ≡ true)
+cut_or_plain : (bytes : List ℕ) → HasColon bytes ⊎ (list_all (λ b. not (b == 58)) bytes ≡ true)
 cut_or_plain [] = inr refl
 cut_or_plain (b ∷ bytes) = by (b == 58) refl (cut_or_plain bytes)
   where
-    by : (t : Bool) → (b == 58) ≡ t → IsCut bytes ⊎ (list_all (λ b. not (b == 58)) bytes ≡ true)
-        → IsCut (b ∷ bytes) ⊎ (list_all (λ b. not (b == 58)) (b ∷ bytes) ≡ true)
+    by : (t : Bool) → (b == 58) ≡ t → HasColon bytes ⊎ (list_all (λ b. not (b == 58)) bytes ≡ true)
+        → HasColon (b ∷ bytes) ⊎ (list_all (λ b. not (b == 58)) (b ∷ bytes) ≡ true)
     by true e h = inl ([], bytes, ap (λ c. c ∷ bytes) (eqb-true b 58 e), refl)
     by false e (inl (front, back, is, plain)) = inl (b ∷ front, back, ap (λ r. b ∷ r) is, rw (e, plain) refl)
     by false e (inr plain) = inr (rw (e, plain) refl)
@@ -109,7 +109,7 @@ uri_or_not bytes = by (cut_or_plain bytes)
     halves front back is plain (inr no_parts) =
         inr (λ u. no_parts (uri_cut bytes front back is (AllPass-from_list_all (λ b. not (b == 58)) front plain) u))
 
-    by : IsCut bytes ⊎ (list_all (λ b. not (b == 58)) bytes ≡ true) → Either (IsUri bytes)
+    by : HasColon bytes ⊎ (list_all (λ b. not (b == 58)) bytes ≡ true) → Either (IsUri bytes)
     by (inl (front, back, is, plain)) =
         halves front back is plain (both (scheme_or_not front) (both (less_or_not 0 (length back)) (all_pass is_visible back)))
     by (inr plain) = inr (λ u. uri_none bytes (AllPass-from_list_all (λ b. not (b == 58)) bytes plain) u)

@@ -1,16 +1,16 @@
 -- Turns of a walk that ask: what each leaves, and the whole walk from its turns.
-use Rattle.std.proofs.Common.{◌≡◌, ◌↔◌, ℕ, zero, suc, ◌+◌, ◌<◌, ◌≤◌, ◌⊎◌, List, [], ◌∷◌, ◌++◌, length, drop, refl, sym, ◌∙◌, ap, subst, inl, inr, arith}
+use Rattle.std.proofs.Common.{◌≡◌, ◌↔◌, ℕ, zero, suc, ◌+◌, ◌<◌, ◌≤◌, ◌⊎◌, List, [], ◌∷◌, ◌++◌, length, refl, sym, ◌∙◌, ap, subst, inl, inr, arith, map}
 use Rattle.std.specs.Prelude.{Contains, Some, slice_get, Result, Ok, Err, IsErrAnd}
 use Rattle.std.specs.List.{sum_by}
 use Rattle.std.proofs.lemmas.List.{length-append, map-append}
 use Rattle.std.proofs.lemmas.List.Sums.{sum_by-append}
-use Rattle.std.proofs.lemmas.List.Elements.{Contains-push_cases}
+use Rattle.std.proofs.lemmas.List.Elements.{Contains-append_left, Contains-push, Contains-push_cases}
 use Rattle.std.proofs.lemmas.Option.{slice_get_within}
 use Rattle.std.proofs.lemmas.Str.Ascii.{lowercase-lowercase}
 use Rattle.enum_base.specs.Folding.{folded}
 use Rattle.enum_base.specs.Outside.{WhereTold}
 use Rattle.dns_name.specs.Name.{folded_labels}
-use Rattle.naptr_data.specs.Sources.{SourceState, AreDistinct}
+use Rattle.naptr_data.specs.Sources.{RuleSourceState, AreDistinct}
 use Rattle.naptr_data.specs.Zones.{Labels, Zone, IsOffer}
 use Rattle.naptr_data.specs.declared.offer.Offer.{Offer}
 use Rattle.naptr_data.specs.declared.offer.Offer.TheVariants as offer
@@ -23,7 +23,7 @@ use Rattle.ddds_walk.specs.Kept.{HasKept}
 use Rattle.ddds_walk.specs.Report.{IsNeeded, AreSomeNeeded}
 use Rattle.ddds_walk.specs.Rules.{Client, Yields, IsEdgeOf}
 use Rattle.ddds_walk.specs.Turns.{IsSound, IsWay, AreFolded, left_at, left_in, IsAt, HasMoved, Serves, Counts, HasTurned, HasAsked, Opens}
-use Rattle.ddds_walk.specs.Ways.{path_of, domains_of}
+use Rattle.ddds_walk.specs.Ways.{domains_of}
 use Rattle.ddds_walk.specs.declared.edge.Edge.{Edge}
 use Rattle.ddds_walk.specs.declared.edge.Edge.TheVariants.{Step}
 use Rattle.ddds_walk.specs.declared.fault.WalkFault.{WalkFault}
@@ -64,11 +64,12 @@ edge_folds c offer.Unserved r d e = absurd e
 pub edges_fold : (c : Client) (o : Offer) (edges : List Edge) → ((r : ℕ) (e : Edge) → (slice_get edges r ≡ Some e) ↔ IsEdgeOf c o r e) → AreFolded edges
 edges_fold c o edges told r d e = edge_folds c o r d ((told r (Step d)).0 e)
 
-pub key_folds : (key : Labels) → AreFolded (Step (folded_labels key) ∷ [])
-key_folds key zero d e = let f : d ≡ folded_labels key = cc in same_folds d key f
-key_folds key (suc r) d e = cc
+pub keys_fold : (keys : List Labels) → AreFolded (map (λ key. Step key) (map folded_labels keys))
+keys_fold [] r d e = cc
+keys_fold (key ∷ keys) zero d e = let f : d ≡ folded_labels key = cc in same_folds d key f
+keys_fold (key ∷ keys) (suc r) d e = keys_fold keys r d e
 
-module _ (c : Client) (limit : ℕ) (t : SourceState) (w w' : Walker) where
+module _ (c : Client) (limit : ℕ) (t : RuleSourceState) (w w' : Walker) where
   -- a turn that asks nobody
   pub turned_moved : (turn : Turn) → IsSound limit w → HasMoved limit w w' turn → HasTurned c limit t t w w' (Ok turn)
   turned_moved turn sound m = record {
@@ -82,17 +83,17 @@ module _ (c : Client) (limit : ℕ) (t : SourceState) (w w' : Walker) where
     };
     sound = m.sound;
     falls = λ e. m.falls (turn_is e);
-    told = λ zones key is s. (some zones key s, m.says c zones key s, λ n e. cc);
+    told = λ zones keys is s. (some zones keys s, m.says c zones keys s, λ n e. cc);
   }
     where
       turn_is : ◌≡◌ {A = Result Turn WalkFault} (Ok turn) (Ok On) → turn ≡ On
       turn_is e = cc
 
-      some : (zones : List Zone) (key : Labels) → IsAt c zones key w → AreSomeNeeded (graph_of c zones) key w'.asked
-      some zones key s = subst (λ v. AreSomeNeeded (graph_of c zones) key v) (sym m.asked) (record { once = sound.once; only = s.needed })
+      some : (zones : List Zone) (keys : List Labels) → IsAt c zones keys w → AreSomeNeeded (graph_of c zones) keys w'.asked
+      some zones keys s = subst (λ v. AreSomeNeeded (graph_of c zones) keys v) (sym m.asked) (record { once = sound.once; only = s.needed })
 
 -- counts that stand for one result stand for each that is refused in its place
-memory_counts : {A B : Type 0} (limit : ℕ) (t u : SourceState) (asked asked' : List Labels) (result : Result A WalkFault)
+memory_counts : {A B : Type 0} (limit : ℕ) (t u : RuleSourceState) (asked asked' : List Labels) (result : Result A WalkFault)
     → Counts limit t u asked asked' result → Counts {A = B} limit t u asked asked' (Err Memory)
 memory_counts limit t u asked asked' result h = record {
   once = h.once;
@@ -102,7 +103,7 @@ memory_counts limit t u asked asked' result h = record {
   met = λ n e. cc;
 }
 
-refused_counts : {A B : Type 0} (limit : ℕ) (t u : SourceState) (asked asked' : List Labels) (e : WalkFault)
+refused_counts : {A B : Type 0} (limit : ℕ) (t u : RuleSourceState) (asked asked' : List Labels) (e : WalkFault)
     → Counts {A = A} limit t u asked asked' (Err e) → Counts {A = B} limit t u asked asked' (Err e)
 refused_counts {A} {B} limit t u asked asked' (Limit n) h =
     record { once = h.once; few = h.few; asks = h.asks; kept = h.kept; met = λ m e. h.met m (limits m e) }
@@ -112,23 +113,27 @@ refused_counts {A} {B} limit t u asked asked' (Limit n) h =
 refused_counts limit t u asked asked' Trouble h = record { once = h.once; few = h.few; asks = h.asks; kept = λ x k f i. absurd x; met = λ n e. cc }
 refused_counts limit t u asked asked' Memory h = record { once = h.once; few = h.few; asks = h.asks; kept = λ x k f i. absurd x; met = λ n e. cc }
 
-module _ (c : Client) (limit : ℕ) (t u : SourceState) (w w' : Walker) (asked : List Labels) (next : Labels)
+module _ (c : Client) (limit : ℕ) (t u : RuleSourceState) (w w' : Walker) (asked : List Labels) (next : Labels)
     (sound : IsSound limit w) (here : slice_get w.top.edges w.top.rank ≡ Some (Step next))
-    (new : ¬ Contains w.asked next) (away : ¬ (Contains (domains_of w.below) (Some next) ⊎ (w.top.domain ≡ Some next))) where
+    (new : ¬ Contains w.asked next) where
+  -- a domain that was not asked for is not on the way
+  away : ¬ (Contains (domains_of w.below) (Some next) ⊎ (w.top.domain ≡ Some next))
+  away on = new (sound.met next on)
+
   -- what was asked is needed, with the domain of the edge or without
   some_needed : (w.asked ≡ asked) ⊎ (asked ≡ w.asked ++ next ∷ []) → w'.asked ≡ asked → AreDistinct asked
-      → (zones : List Zone) (key : Labels) → IsAt c zones key w → AreSomeNeeded (graph_of c zones) key w'.asked
-  some_needed cases same once zones key s =
-      subst (λ v. AreSomeNeeded (graph_of c zones) key v) (sym same)
+      → (zones : List Zone) (keys : List Labels) → IsAt c zones keys w → AreSomeNeeded (graph_of c zones) keys w'.asked
+  some_needed cases same once zones keys s =
+      subst (λ v. AreSomeNeeded (graph_of c zones) keys v) (sym same)
       (record { once = once; only = λ d h. only cases d h })
     where
-      only : (w.asked ≡ asked) ⊎ (asked ≡ w.asked ++ next ∷ []) → (d : Labels) → Contains asked d → IsNeeded (graph_of c zones) key d
+      only : (w.asked ≡ asked) ⊎ (asked ≡ w.asked ++ next ∷ []) → (d : Labels) → Contains asked d → IsNeeded (graph_of c zones) keys d
       only (inl e) d h = s.needed d (subst (λ v. Contains v d) (sym e) h)
       only (inr e) d h = by (Contains-push_cases w.asked next d (subst (λ v. Contains v d) e h))
         where
-          by : Contains w.asked d ⊎ (next ≡ d) → IsNeeded (graph_of c zones) key d
+          by : Contains w.asked d ⊎ (next ≡ d) → IsNeeded (graph_of c zones) keys d
           by (inl k) = s.needed d k
-          by (inr f) = subst (λ v. IsNeeded (graph_of c zones) key v) f (state_needed c zones key w.asked w.ends w.below w.top s next here away)
+          by (inr f) = subst (λ v. IsNeeded (graph_of c zones) keys v) f (state_needed c zones keys w.asked w.ends w.below w.top s next here away)
 
   turn_cases : (asked ≡ w.asked) ⊎ (asked ≡ w.asked ++ next ∷ []) → (w.asked ≡ asked) ⊎ (asked ≡ w.asked ++ next ∷ [])
   turn_cases (inl e) = inl (sym e)
@@ -148,15 +153,15 @@ module _ (c : Client) (limit : ℕ) (t u : SourceState) (w w' : Walker) (asked :
     counts = refused_counts limit t u w.asked w'.asked e (subst (λ v. Counts {A = Offer} limit t u w.asked v (Err e)) (sym same) a.counts);
     sound = tt;
     falls = λ h. cc;
-    told = λ zones key is s. (some_needed (turn_cases a.cases) same a.counts.once zones key s, tt, λ n h. past zones key s n (limits n h));
+    told = λ zones keys is s. (some_needed (turn_cases a.cases) same a.counts.once zones keys s, tt, λ n h. past zones keys s n (limits n h));
   }
     where
       limits : (n : ℕ) → ◌≡◌ {A = Result Turn WalkFault} (Err e) (Err (Limit n)) → ◌≡◌ {A = Result Offer WalkFault} (Err e) (Err (Limit n))
       limits n h = let f : e ≡ Limit n = cc in ap Err f
 
-      past : (zones : List Zone) (key : Labels) → IsAt c zones key w → (n : ℕ)
-          → ◌≡◌ {A = Result Offer WalkFault} (Err e) (Err (Limit n)) → NeedsMore (graph_of c zones) key limit
-      past zones key s n h =
+      past : (zones : List Zone) (keys : List Labels) → IsAt c zones keys w → (n : ℕ)
+          → ◌≡◌ {A = Result Offer WalkFault} (Err e) (Err (Limit n)) → NeedsMore (graph_of c zones) keys limit
+      past zones keys s n h =
           let m = a.counts.met n h in
           let l : length w.asked ≡ limit = ap length (sym (a.met n h)) ∙ m.1 in (
             w.asked ++ next ∷ [],
@@ -167,9 +172,9 @@ module _ (c : Client) (limit : ℕ) (t u : SourceState) (w w' : Walker) (asked :
             omega (arith, length-append w.asked (next ∷ [])),
           )
         where
-          by : (d : Labels) → Contains w.asked d ⊎ (next ≡ d) → IsNeeded (graph_of c zones) key d
+          by : (d : Labels) → Contains w.asked d ⊎ (next ≡ d) → IsNeeded (graph_of c zones) keys d
           by d (inl k) = s.needed d k
-          by d (inr f) = subst (λ v. IsNeeded (graph_of c zones) key v) f (state_needed c zones key w.asked w.ends w.below w.top s next here away)
+          by d (inr f) = subst (λ v. IsNeeded (graph_of c zones) keys v) f (state_needed c zones keys w.asked w.ends w.below w.top s next here away)
 
   memory_serves : {A B : Type 0} (result : Result A WalkFault) → Serves t u result → Serves {A = B} t u (Err Memory)
   memory_serves result s = record { zones = s.zones; room = s.room; lent = s.lent; later = s.later; trouble = λ h. cc }
@@ -182,7 +187,7 @@ module _ (c : Client) (limit : ℕ) (t u : SourceState) (w w' : Walker) (asked :
     counts = memory_counts limit t u w.asked w'.asked (Ok o) (subst (λ v. Counts {A = Offer} limit t u w.asked v (Ok o)) (sym same) a.counts);
     sound = tt;
     falls = λ h. cc;
-    told = λ zones key is s. (some_needed (turn_cases a.cases) same a.counts.once zones key s, tt, λ n h. cc);
+    told = λ zones keys is s. (some_needed (turn_cases a.cases) same a.counts.once zones keys s, tt, λ n h. cc);
   }
 
   -- the same of an answer that is known by what it refuses
@@ -210,7 +215,7 @@ module _ (c : Client) (limit : ℕ) (t u : SourceState) (w w' : Walker) (asked :
     };
     sound = sound_there;
     falls = λ h. falls;
-    told = λ zones key is s. (some_needed (inr grew) opens.asked a.counts.once zones key s, at zones key is s, λ n h. cc);
+    told = λ zones keys is s. (some_needed (inr grew) opens.asked a.counts.once zones keys s, at zones keys is s, λ n h. cc);
   }
     where
       grew : asked ≡ w.asked ++ next ∷ []
@@ -228,14 +233,28 @@ module _ (c : Client) (limit : ℕ) (t u : SourceState) (w w' : Walker) (asked :
       is : opened ≡ w'
       is i = record { asked = (sym opens.asked) i; ends = w'.ends; below = (sym opens.below) i; top = (sym opens.top) i }
 
+      domains : domains_of (w.below ++ w.top ∷ []) ≡ domains_of w.below ++ w.top.domain ∷ []
+      domains = map-append (λ (x : Frame). x.domain) w.below (w.top ∷ [])
+
+      met_before : (d : Labels) → Contains (domains_of w.below) (Some d) ⊎ (w.top.domain ≡ Some d) → Contains (w.asked ++ next ∷ []) d
+      met_before d on = Contains-append_left w.asked (next ∷ []) d (sound.met d on)
+
+      met_grown : (d : Labels) → Contains (domains_of (w.below ++ w.top ∷ [])) (Some d) ⊎ (Some next ≡ Some d)
+          → Contains (w.asked ++ next ∷ []) d
+      met_grown d (inl h) =
+          met_before d (Contains-push_cases (domains_of w.below) w.top.domain (Some d) (subst (λ v. Contains v (Some d)) domains h))
+      met_grown d (inr e) =
+          let f : next ≡ d = cc in subst (λ v. Contains (w.asked ++ next ∷ []) v) f (Contains-push w.asked next)
+
       sound_opened : IsSound limit opened
       sound_opened = record {
         once = a.counts.once;
         few = a.counts.few;
         below = past_push w.below w.top sound.below (rank_in, sound.top.1);
-        top = (omega arith, record { few = opens.few; folded = edges_fold c o opens.edges opens.told; root = λ e. cc });
+        top = (omega arith, record { few = opens.few; keys = λ e. cc; folded = edges_fold c o opens.edges opens.told; root = λ e. cc });
         way = subst (λ v. IsWay (v ++ Some next ∷ [])) (sym (map-append (λ (x : Frame). x.domain) w.below (w.top ∷ [])))
             (way_push (domains_of w.below ++ w.top.domain ∷ []) next sound.way);
+        met = λ d on. subst (λ v. Contains v d) (sym grew) (met_grown d on);
       }
 
       sound_there : IsSound limit w'
@@ -253,11 +272,11 @@ module _ (c : Client) (limit : ℕ) (t u : SourceState) (w w' : Walker) (asked :
       falls : left_in limit w' < left_in limit w
       falls = subst (λ v. left_in limit v < left_in limit w) is falls_opened
 
-      at : (zones : List Zone) (key : Labels) → t.zones ≡ Some zones → IsAt c zones key w → IsAt c zones key w'
-      at zones key is-told s = subst (λ v. IsAt c zones key v) is
-          (subst (λ v. IsAt c zones key (record opened { asked = v })) (sym grew)
-          (state_enter c zones key w.asked w.ends w.below w.top s next here o opens.edges w'.ends (drop 1 (path_of w.below ++ w.top.rank ∷ []))
-          new away offered opens.told refl opens.ends))
+      at : (zones : List Zone) (keys : List Labels) → t.zones ≡ Some zones → IsAt c zones keys w → IsAt c zones keys w'
+      at zones keys is-told s = subst (λ v. IsAt c zones keys v) is
+          (subst (λ v. IsAt c zones keys (record opened { asked = v })) (sym grew)
+          (state_enter c zones keys w.asked w.ends w.below w.top s next here o opens.edges w'.ends
+          new away offered opens.told opens.ends))
         where
           offered : IsOffer zones next o
           offered = subst (λ v. WhereTold v (λ zones. IsOffer zones next o)) is-told a.offered.2

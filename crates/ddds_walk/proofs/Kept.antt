@@ -273,31 +273,31 @@ kept_enough room kept fetched asked kept' fetched' asks asks' h e =
     (length asked, length h.misses, e, h.fetches, omega arith)
 
 -- where the needed domains were asked, and there is room for them and for what was kept before
-pub kept_missing : (g : Graph Labels) (key : Labels) (room : ℕ) (kept : List Labels) (fetched : ℕ) (asked kept' : List Labels)
-    (fetched' : ℕ) → HasKept room kept fetched asked kept' fetched' → AreNeeded g key asked
-    → FetchesMissing g key room kept kept' fetched fetched'
-kept_missing g key room kept fetched asked kept' fetched' h needed all (once, has) l = (
+pub kept_missing : (g : Graph Labels) (keys : List Labels) (room : ℕ) (kept : List Labels) (fetched : ℕ) (asked kept' : List Labels)
+    (fetched' : ℕ) → HasKept room kept fetched asked kept' fetched' → AreNeeded g keys asked
+    → FetchesMissing g keys room kept kept' fetched fetched'
+kept_missing g keys room kept fetched asked kept' fetched' h needed all (once, has) l = (
   (λ d. ((λ k. (has d).1 (these d (h.only d k))), (λ k. h.stay fits d (those d ((has d).0 k))))),
   (h.misses, (h.misses_once, (λ d. ((λ k. missed d k), (λ k. wanted d k)))), h.fetches),
 )
   where
-    these : (d : Labels) → Contains kept d ⊎ Contains asked d → Contains kept d ⊎ IsNeeded g key d
+    these : (d : Labels) → Contains kept d ⊎ Contains asked d → Contains kept d ⊎ IsNeeded g keys d
     these d (inl k) = inl k
     these d (inr k) = inr (needed.some.only d k)
 
-    those : (d : Labels) → Contains kept d ⊎ IsNeeded g key d → Contains kept d ⊎ Contains asked d
+    those : (d : Labels) → Contains kept d ⊎ IsNeeded g keys d → Contains kept d ⊎ Contains asked d
     those d (inl k) = inl k
     those d (inr k) = inr (needed.all d k)
 
     fits : HasRoom room kept asked
     fits = (all, l, (λ d k. (has d).1 (these d k)))
 
-    missed : (d : Labels) → Contains h.misses d → IsNeeded g key d × ¬ Contains kept d
+    missed : (d : Labels) → Contains h.misses d → IsNeeded g keys d × ¬ Contains kept d
     missed d k = (needed.some.only d ((h.each d).1 (inr k)), h.lacking fits d k)
 
     either : (d : Labels) → ¬ Contains kept d → Contains h.hits d ⊎ Contains h.misses d → Contains h.misses d
     either d n (inl k) = absurd (n (h.before d k))
     either d n (inr k) = k
 
-    wanted : (d : Labels) → IsNeeded g key d × ¬ Contains kept d → Contains h.misses d
+    wanted : (d : Labels) → IsNeeded g keys d × ¬ Contains kept d → Contains h.misses d
     wanted d (k, n) = either d n ((h.each d).0 (needed.all d k))

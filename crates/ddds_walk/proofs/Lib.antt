@@ -1,4 +1,5 @@
 pub mod Elements
+pub mod KeyLemmas
 pub mod Order
 pub mod Graphs
 pub mod Steps

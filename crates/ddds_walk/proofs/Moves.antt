@@ -91,19 +91,19 @@ module _ {V : Type 0} (g : Graph V) (laws : IsGraph g) (key : V) where
           let (o, n) = ends_by g rs [] key mark i x in
           (as_found [] (by_domain key), adds_there [] found [] (by_domain key) (g.Open key) a o, sym n, inl (sym i))
 
-      ends : AreDistinct (marks_of found) × AreRising (ranks_of found)
+      ends : AreDistinct (marks_of found) × AreRising Less (ranks_of found)
       ends = by a.cases
         where
           none : (x : V) → (xs : List V) → Contains [] x → ⊥
           none x xs k = has_none x k
 
           by : (g.Open key × (found ≡ [] ++ as_found [] (by_domain key) ∷ [])) ⊎ ((g.Open key → ⊥) × (found ≡ []))
-              → AreDistinct (marks_of found) × AreRising (ranks_of found)
+              → AreDistinct (marks_of found) × AreRising Less (ranks_of found)
           by (inl (o, i)) =
-              let P : List (Found V) → Type 0 = λ v. AreDistinct (marks_of v) × AreRising (ranks_of v) in
+              let P : List (Found V) → Type 0 = λ v. AreDistinct (marks_of v) × AreRising Less (ranks_of v) in
               subst P (sym i) (((λ k. has_none (by_domain key) k), tt), ((λ y k. absurd (has_none y k)), tt))
           by (inr (o, i)) =
-              let P : List (Found V) → Type 0 = λ v. AreDistinct (marks_of v) × AreRising (ranks_of v) in
+              let P : List (Found V) → Type 0 = λ v. AreDistinct (marks_of v) × AreRising Less (ranks_of v) in
               subst P (sym i) (tt, tt)
 
 module _ {V : Type 0} (g : Graph V) (laws : IsGraph g) (key : V) (done : List V) (found : List (Found V))
@@ -155,17 +155,17 @@ module _ {V : Type 0} (g : Graph V) (laws : IsGraph g) (key : V) (done : List V)
       fresh : (qs : List ℕ) → EndsAs g key qs (by_domain m) → Less qs (path ++ next ∷ []) → ⊥
       fresh qs x l = unmet qs (ends_by_domain g qs key m x).0 l
 
-      ends : AreDistinct (marks_of grown) × AreRising (ranks_of grown)
+      ends : AreDistinct (marks_of grown) × AreRising Less (ranks_of grown)
       ends = by a.cases
         where
           by : (g.Open m × (grown ≡ found ++ as_found (path ++ next ∷ []) (by_domain m) ∷ [])) ⊎ ((g.Open m → ⊥) × (grown ≡ found))
-              → AreDistinct (marks_of grown) × AreRising (ranks_of grown)
+              → AreDistinct (marks_of grown) × AreRising Less (ranks_of grown)
           by (inl (o, i)) =
               fresh_ends g laws key done found path next top w (path ++ next ∷ []) (by_domain m) grown i
               (λ e k. (w.sound e k).1)
               (λ e k n. let x = w.sound e k in fresh e.ranks (ends_marked g e.ranks key e.mark (by_domain m) n x.0) x.1)
           by (inr (o, i)) =
-              let P : List (Found V) → Type 0 = λ v. AreDistinct (marks_of v) × AreRising (ranks_of v) in
+              let P : List (Found V) → Type 0 = λ v. AreDistinct (marks_of v) × AreRising Less (ranks_of v) in
               subst P (sym i) (w.once, w.rising)
 
       sound : (e : Found V) → Contains found e ⊎ (g.Open m × (it ≡ e))

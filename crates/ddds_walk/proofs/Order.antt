@@ -117,8 +117,8 @@ rank_cases q (r ∷ us) k = by (order_of r k)
     by (inr (inr h)) = inr (r, us, omega arith, refl)
 
 -- a derivation above all of a rising list makes it longer
-pub rising_push : (xs : List (List ℕ)) (y : List ℕ) → AreRising xs
-    → ((x : List ℕ) → Contains xs x → Less x y) → AreRising (xs ++ y ∷ [])
+pub rising_push : (xs : List (List ℕ)) (y : List ℕ) → AreRising Less xs
+    → ((x : List ℕ) → Contains xs x → Less x y) → AreRising Less (xs ++ y ∷ [])
 rising_push [] y a h = ((λ x k. absurd (has_none x k)), tt)
 rising_push (z ∷ xs) y a h =
     ((λ x k. by x (Contains-push_cases xs y x k)), rising_push xs y a.1 (λ x k. h x (has_tail xs z x k)))

@@ -1,15 +1,15 @@
--- The graph with the root, for one key: what is true of derivations from the root is true of those from the key.
-use Rattle.std.proofs.Common.{◌≡◌, ℕ, zero, suc, ◌⊎◌, List, [], ◌∷◌, map, Option, Some, None, refl, sym, ◌∙◌, ap, subst, inl, inr}
-use Rattle.std.specs.Prelude.{Contains, slice_get}
+-- The graph with the root: what is true of ranks from the root is true of derivations, whose place is the first rank.
+use Rattle.std.proofs.Common.{◌≡◌, ℕ, ◌⊎◌, List, [], ◌∷◌, map, Option, Some, None, refl, sym, ◌∙◌, ap, subst, inl, inr}
+use Rattle.std.specs.Prelude.{Contains}
 use Rattle.naptr_data.specs.Sources.{AreDistinct}
 use Rattle.naptr_data.specs.Zones.{Labels}
-use Rattle.ddds_walk.specs.Graph.{Graph, Leads, Passes}
+use Rattle.ddds_walk.specs.Graph.{Graph, Leads, LeadsFrom, Passes, PassesFrom}
 use Rattle.ddds_walk.specs.Order.{Less}
 use Rattle.ddds_walk.specs.Report.{IsLoop, IsLeastLoop, HasNoLoop, IsNeeded}
-use Rattle.ddds_walk.specs.Ways.{RootedSteps, RootedStops, rooted}
+use Rattle.ddds_walk.specs.Ways.{RootedSteps, RootedStops, rooted, IsRound, IsLeastRound, HasNoRound, IsMet}
+use Rattle.ddds_walk.specs.declared.derivation.Derivation.{Derivation}
 use Rattle.ddds_walk.proofs.Elements.{has_none, has_cons, has_tail, has_same, has_map, has_unmap}
 use Rattle.ddds_walk.specs.Ways.{IsGraph}
-use Rattle.ddds_walk.proofs.Order.{less_tail}
 
 some_same : (d e : Labels) → Some d ≡ Some e → d ≡ e
 some_same d e s = cc
@@ -90,48 +90,42 @@ module _ (g : Graph Labels) (keys : List Labels) where
   some_passes [] a es p = ap somes p
   some_passes (r ∷ rs) a es (b, rest, s, p, e) = (Some b, somes rest, s, some_passes rs b rest p, ap somes e)
 
-module _ (g : Graph Labels) (key : Labels) where
-  -- from the root leads the one edge to the key
-  root_step : (r : ℕ) (k : Labels) → slice_get (key ∷ []) r ≡ Some k → (r ≡ zero) × (key ≡ k)
-  root_step zero k s = (refl, some_same key k s)
-  root_step (suc r) k s = absurd (none_some k s)
-
-  -- a derivation from the root to a domain is one from the key after the rank 0
-  pub leads_in : (rs : List ℕ) (d : Labels) → Leads (rooted g (key ∷ [])) None rs (Some d)
-      → (qs : List ℕ) × (rs ≡ zero ∷ qs) × Leads g key qs d
+module _ (g : Graph Labels) (keys : List Labels) where
+  -- ranks from the root to a domain are a derivation: the first is the place of its key
+  pub leads_in : (rs : List ℕ) (d : Labels) → Leads (rooted g keys) None rs (Some d)
+      → (way : Derivation) × (rs ≡ way.place ∷ way.ranks) × LeadsFrom g keys way d
   leads_in [] d l = absurd (none_some d l)
   leads_in (r ∷ rs) d (None, s, l) = absurd s
-  leads_in (r ∷ rs) d (Some k, s, l) =
-      let e = root_step r k s in
-      (rs, ap (λ v. v ∷ rs) e.0, subst (λ v. Leads g v rs d) (sym e.1) (leads_some g (key ∷ []) rs k d l))
+  leads_in (r ∷ rs) d (Some k, s, l) = (record { place = r; ranks = rs }, refl, (k, s, leads_some g keys rs k d l))
 
-  pub leads_out : (qs : List ℕ) (d : Labels) → Leads g key qs d → Leads (rooted g (key ∷ [])) None (zero ∷ qs) (Some d)
-  leads_out qs d l = (Some key, refl, some_leads g (key ∷ []) qs key d l)
+  pub leads_out : (way : Derivation) (d : Labels) → LeadsFrom g keys way d
+      → Leads (rooted g keys) None (way.place ∷ way.ranks) (Some d)
+  leads_out way d (k, s, l) = (Some k, s, some_leads g keys way.ranks k d l)
 
-  pub passes_in : (rs : List ℕ) (ds : List (Option Labels)) → Passes (rooted g (key ∷ [])) None (zero ∷ rs) ds
-      → (es : List Labels) × (ds ≡ None ∷ somes es) × Passes g key rs es
-  passes_in rs ds (None, rest, s, p, e) = absurd s
-  passes_in rs ds (Some k, rest, s, p, e) =
-      let (es, f, q) = passes_some g (key ∷ []) rs k rest p in
-      (es, e ∙ ap (λ v. None ∷ v) f, subst (λ v. Passes g v rs es) (sym (root_step zero k s).1) q)
+  pub passes_in : (way : Derivation) (ds : List (Option Labels)) → Passes (rooted g keys) None (way.place ∷ way.ranks) ds
+      → (es : List Labels) × (ds ≡ None ∷ somes es) × PassesFrom g keys way es
+  passes_in way ds (None, rest, s, p, e) = absurd s
+  passes_in way ds (Some k, rest, s, p, e) =
+      let (es, f, q) = passes_some g keys way.ranks k rest p in
+      (es, e ∙ ap (λ v. None ∷ v) f, (k, s, q))
 
-  pub passes_out : (rs : List ℕ) (es : List Labels) → Passes g key rs es
-      → Passes (rooted g (key ∷ [])) None (zero ∷ rs) (None ∷ somes es)
-  passes_out rs es p = (Some key, somes es, refl, some_passes g (key ∷ []) rs key es p, refl)
+  pub passes_out : (way : Derivation) (es : List Labels) → PassesFrom g keys way es
+      → Passes (rooted g keys) None (way.place ∷ way.ranks) (None ∷ somes es)
+  passes_out way es (k, s, p) = (Some k, somes es, s, some_passes g keys way.ranks k es p, refl)
 
-  -- a loop from the root is one from the key
-  pub loop_in : (rs : List ℕ) (ds : List (Option Labels)) (d : Option Labels) → IsLoop (rooted g (key ∷ [])) None rs ds d
-      → (qs : List ℕ) × (es : List Labels) × (e : Labels) × (rs ≡ zero ∷ qs) × (ds ≡ None ∷ somes es) × (d ≡ Some e)
-      × IsLoop g key qs es e
+  -- what leads round from the root is a loop
+  pub loop_in : (rs : List ℕ) (ds : List (Option Labels)) (d : Option Labels) → IsRound (rooted g keys) None rs ds d
+      → (way : Derivation) × (es : List Labels) × (e : Labels) × (rs ≡ way.place ∷ way.ranks) × (ds ≡ None ∷ somes es)
+      × (d ≡ Some e) × IsLoop g keys way es e
   loop_in rs ds None l =
-      let e = leads_root g (key ∷ []) rs None l.leads in
-      let p : ds ≡ [] = subst (λ v. Passes (rooted g (key ∷ [])) None v ds) e.0 l.passes in
+      let e = leads_root g keys rs None l.leads in
+      let p : ds ≡ [] = subst (λ v. Passes (rooted g keys) None v ds) e.0 l.passes in
       let P : List (Option Labels) → Type 0 = λ v. Contains v None in
       absurd (has_none None (subst P p l.again))
   loop_in rs ds (Some e) l =
-      let (qs, f, h) = leads_in rs e l.leads in
-      let (es, i, p) = passes_in qs ds (subst (λ v. Passes (rooted g (key ∷ [])) None v ds) f l.passes) in (
-        qs,
+      let (way, f, h) = leads_in rs e l.leads in
+      let (es, i, p) = passes_in way ds (subst (λ v. Passes (rooted g keys) None v ds) f l.passes) in (
+        way,
         es,
         e,
         f,
@@ -155,23 +149,22 @@ module _ (g : Graph Labels) (key : Labels) where
       others : (es : List Labels) → AreDistinct (None ∷ somes es) → AreDistinct es
       others es a = distinct_some es a.1
 
-  pub loop_out : (qs : List ℕ) (es : List Labels) (e : Labels) → IsLoop g key qs es e
-      → IsLoop (rooted g (key ∷ [])) None (zero ∷ qs) (None ∷ somes es) (Some e)
-  loop_out qs es e l = record {
-    leads = leads_out qs e l.leads;
-    passes = passes_out qs es l.passes;
+  pub loop_out : (way : Derivation) (es : List Labels) (e : Labels) → IsLoop g keys way es e
+      → IsRound (rooted g keys) None (way.place ∷ way.ranks) (None ∷ somes es) (Some e)
+  loop_out way es e l = record {
+    leads = leads_out way e l.leads;
+    passes = passes_out way es l.passes;
     again = has_tail (somes es) None (Some e) (some_has es e l.again);
     others = ((λ h. has_no_root es h), some_distinct es l.others);
   }
 
-  -- the least loop from the root is the least one from the key
-  pub least_in : (rs : List ℕ) (ds : List (Option Labels)) (d : Option Labels)
-      → IsLeastLoop (rooted g (key ∷ [])) None rs ds d
-      → (qs : List ℕ) × (es : List Labels) × (e : Labels) × (rs ≡ zero ∷ qs) × (ds ≡ None ∷ somes es) × (d ≡ Some e)
-      × IsLeastLoop g key qs es e
+  -- the least way round from the root is the least loop
+  pub least_in : (rs : List ℕ) (ds : List (Option Labels)) (d : Option Labels) → IsLeastRound (rooted g keys) None rs ds d
+      → (way : Derivation) × (es : List Labels) × (e : Labels) × (rs ≡ way.place ∷ way.ranks) × (ds ≡ None ∷ somes es)
+      × (d ≡ Some e) × IsLeastLoop g keys way es e
   least_in rs ds d l =
-      let (qs, es, e, f, i, j, h) = loop_in rs ds d l.loop in (
-        qs,
+      let (way, es, e, f, i, j, h) = loop_in rs ds d l.loop in (
+        way,
         es,
         e,
         f,
@@ -179,40 +172,40 @@ module _ (g : Graph Labels) (key : Labels) where
         j,
         record {
           loop = h;
-          least = λ ls xs x m b. l.least (zero ∷ ls) (None ∷ somes xs) (Some x) (loop_out ls xs x m)
-              (subst (λ v. Less (zero ∷ ls) v) (sym f) (inr (refl, b)));
+          least = λ other xs x m b. l.least (other.place ∷ other.ranks) (None ∷ somes xs) (Some x) (loop_out other xs x m)
+              (subst (λ v. Less (other.place ∷ other.ranks) v) (sym f) b);
         },
       )
 
-  pub least_out : (qs : List ℕ) (es : List Labels) (e : Labels) → IsLeastLoop g key qs es e
-      → IsLeastLoop (rooted g (key ∷ [])) None (zero ∷ qs) (None ∷ somes es) (Some e)
-  least_out qs es e l = record { loop = loop_out qs es e l.loop; least = least }
+  pub least_out : (way : Derivation) (es : List Labels) (e : Labels) → IsLeastLoop g keys way es e
+      → IsLeastRound (rooted g keys) None (way.place ∷ way.ranks) (None ∷ somes es) (Some e)
+  least_out way es e l = record { loop = loop_out way es e l.loop; least = least }
     where
       least : (ls : List ℕ) (ds : List (Option Labels)) (d : Option Labels)
-          → IsLoop (rooted g (key ∷ [])) None ls ds d → Less ls (zero ∷ qs) → ⊥
+          → IsRound (rooted g keys) None ls ds d → Less ls (way.place ∷ way.ranks) → ⊥
       least ls ds d m b =
-          let (ms, xs, x, f, i, j, h) = loop_in ls ds d m in
-          l.least ms xs x h (less_tail zero ms qs (subst (λ v. Less v (zero ∷ qs)) f b))
+          let (other, xs, x, f, i, j, h) = loop_in ls ds d m in
+          l.least other xs x h (subst (λ v. Less v (way.place ∷ way.ranks)) f b)
 
-  pub no_loop_in : HasNoLoop (rooted g (key ∷ [])) None → HasNoLoop g key
-  no_loop_in n ls ds d l = n (zero ∷ ls) (None ∷ somes ds) (Some d) (loop_out ls ds d l)
+  pub no_loop_in : HasNoRound (rooted g keys) None → HasNoLoop g keys
+  no_loop_in n way ds d l = n (way.place ∷ way.ranks) (None ∷ somes ds) (Some d) (loop_out way ds d l)
 
-  -- a domain is needed from the root where it is needed from the key
-  pub needed_in : (d : Labels) → IsNeeded (rooted g (key ∷ [])) None (Some d) → IsNeeded g key d
+  -- what a walk from the root has to open is needed
+  pub needed_in : (d : Labels) → IsMet (rooted g keys) None (Some d) → IsNeeded g keys d
   needed_in d (rs, l, b) =
-      let (qs, f, h) = leads_in rs d l in (
-        qs,
+      let (way, f, h) = leads_in rs d l in (
+        way,
         h,
-        λ ls ds x i. less_tail zero qs ls
-            (subst (λ v. Less v (zero ∷ ls)) f (b (zero ∷ ls) (None ∷ somes ds) (Some x) (least_out ls ds x i))),
+        λ other ds x i. subst (λ v. Less v (other.place ∷ other.ranks)) f
+            (b (other.place ∷ other.ranks) (None ∷ somes ds) (Some x) (least_out other ds x i)),
       )
 
-  pub needed_out : (d : Labels) → IsNeeded g key d → IsNeeded (rooted g (key ∷ [])) None (Some d)
-  needed_out d (qs, l, b) = (zero ∷ qs, leads_out qs d l, below)
+  pub needed_out : (d : Labels) → IsNeeded g keys d → IsMet (rooted g keys) None (Some d)
+  needed_out d (way, l, b) = (way.place ∷ way.ranks, leads_out way d l, below)
     where
       below : (ls : List ℕ) (ds : List (Option Labels)) (x : Option Labels)
-          → IsLeastLoop (rooted g (key ∷ [])) None ls ds x → Less (zero ∷ qs) ls
+          → IsLeastRound (rooted g keys) None ls ds x → Less (way.place ∷ way.ranks) ls
       below ls ds x i =
-          let (ms, es, e, f, j, k, h) = least_in ls ds x i in
-          let P : List ℕ → Type 0 = λ v. Less (zero ∷ qs) v in
-          subst P (sym f) (inr (refl, b ms es e h))
+          let (other, es, e, f, j, k, h) = least_in ls ds x i in
+          let P : List ℕ → Type 0 = λ v. Less (way.place ∷ way.ranks) v in
+          subst P (sym f) (b other es e h)

@@ -1,5 +1,5 @@
 -- Over zones that offer something for every name a walk comes to an answer.
-use Rattle.std.proofs.Common.{◌≡◌, ◌⊎◌, inl, inr, ℕ, zero, suc, ◌+◌, ◌<◌, ◌≤◌, List, [], ◌∷◌, ◌++◌, length, map, drop}
+use Rattle.std.proofs.Common.{◌≡◌, ◌⊎◌, inl, inr, ℕ, zero, suc, ◌+◌, ◌<◌, ◌≤◌, List, [], ◌∷◌, ◌++◌, length, map}
 use Rattle.std.proofs.Common.{Option, Some, None, refl, ap, subst, ◌∙◌, arith, length-append}
 use Rattle.std.specs.Prelude.{Contains, slice_get}
 use Rattle.std.specs.List.{sum_by}
@@ -17,7 +17,8 @@ use Rattle.ddds_walk.specs.Graph.{Graph, graph_of, Passes}
 use Rattle.ddds_walk.specs.Report.{IsLeastLoop, Answers}
 use Rattle.ddds_walk.specs.Rules.{Client}
 use Rattle.ddds_walk.specs.Turns.{left_at}
-use Rattle.ddds_walk.specs.Ways.{tree_of, Tells, path_of, domains_of, found_of, IsState}
+use Rattle.ddds_walk.specs.Ways.{tree_of, Tells, path_of, domains_of, found_of, end_by, derivation_in, IsLeastRound, IsState}
+use Rattle.ddds_walk.specs.declared.derivation.Derivation.{Derivation}
 use Rattle.ddds_walk.specs.declared.edge.Edge.{Edge}
 use Rattle.ddds_walk.specs.declared.edge.Edge.TheVariants.{Step, Stop}
 use Rattle.ddds_walk.specs.declared.frame.Frame.{Frame}
@@ -80,75 +81,76 @@ passes_count g k [] ds p = ap length p
 passes_count g k (r ∷ rs) ds (m, rest, s, p, e) = ap length e ∙ ap suc (passes_count g m rs rest p)
 
 module _ (offers : ZonesMakeOneOffer) (one : OneOutput) (some : OutputOrNone) (c : Client) (zones : List Zone)
-    (offered : (name : Labels) → (o : Offer) × IsOffer zones name o) (key : Labels) where
+    (offered : (name : Labels) → (o : Offer) × IsOffer zones name o) (keys : List Labels) where
   abbrev Answered : Type 0
-  Answered = (r : Report) × Answers c zones key r
+  Answered = (r : Report) × Answers c zones keys r
 
   -- each walk under way that has so many domains more to ask comes to an answer
   abbrev AnswersWith : ℕ → Type 0
   AnswersWith n = (asked : List Labels) (ends : List End) (below : List Frame) (top : Frame)
-      → IsState c zones key asked ends below top → AreDistinct asked
-      → rules_and_aliases zones + 1 < length asked + n → Answered
+      → IsState c zones keys asked ends below top → AreDistinct asked
+      → rules_and_aliases zones + length keys < length asked + n → Answered
 
   -- .. that has so many edges more to follow until then
   abbrev AnswersWithin : ℕ → ℕ → Type 0
   AnswersWithin n l = (asked : List Labels) (ends : List End) (below : List Frame) (top : Frame)
-      → IsState c zones key asked ends below top → AreDistinct asked
-      → rules_and_aliases zones + 1 < length asked + suc n → left_at top + sum_by left_at below ≤ l → Answered
+      → IsState c zones keys asked ends below top → AreDistinct asked
+      → rules_and_aliases zones + length keys < length asked + suc n → left_at top + sum_by left_at below ≤ l → Answered
 
   -- one turn
   module _ (n l : ℕ) (deeper : AnswersWith n) (again : AnswersWithin n l) (asked : List Labels) (ends : List End)
-      (below : List Frame) (top : Frame) (s : IsState c zones key asked ends below top) (once : AreDistinct asked)
-      (room : rules_and_aliases zones + 1 < length asked + suc n) (low : left_at top + sum_by left_at below ≤ suc l) where
+      (below : List Frame) (top : Frame) (s : IsState c zones keys asked ends below top) (once : AreDistinct asked)
+      (room : rules_and_aliases zones + length keys < length asked + suc n) (low : left_at top + sum_by left_at below ≤ suc l) where
     leave : slice_get top.edges top.rank ≡ None → HasLast below → Answered
-    leave none (inl is) = (report.Ends ends, (state_end c zones key asked ends below top s is none).0)
+    leave none (inl is) = (report.Ends ends, (state_end c zones keys asked ends below top s is none).0)
     leave none (inr (lower, f, is)) =
-        again asked ends lower (record f { rank = f.rank + 1 }) (state_leave c zones key asked ends below top s lower f is none) once room
+        again asked ends lower (record f { rank = f.rank + 1 }) (state_leave c zones keys asked ends below top s lower f is none) once room
         (let a : sum_by left_at below ≡ sum_by left_at lower + sum_by left_at (f ∷ []) = ap (sum_by left_at) is ∙ sum_by-append left_at lower (f ∷ []) in
         let b : sum_by left_at (f ∷ []) ≡ left_at f = omega arith in
         omega (arith, low))
 
     -- after the edge
     onward : (edge : Edge) (more : List End) → slice_get top.edges top.rank ≡ Some edge
-        → IsState c zones key asked more below (record top { rank = top.rank + 1 }) → Answered
+        → IsState c zones keys asked more below (record top { rank = top.rank + 1 }) → Answered
     onward edge more e t =
         again asked more below (record top { rank = top.rank + 1 }) t once room
         (let h = slice_get_within top.edges top.rank edge e in omega (arith, h, low))
 
     no_root : (rule : Naptr) (outcome : Outcome) → slice_get top.edges top.rank ≡ Some (Stop rule outcome) → top.domain ≡ None → ⊥
     no_root rule outcome e at =
-        let (k, g, same) = (subst (λ v. Tells c zones (key ∷ []) v top.edges) at s.at_top.tells top.rank (Stop rule outcome)).0 e in cc
+        let (k, g, same) = (subst (λ v. Tells c zones keys v top.edges) at s.at_top.tells top.rank (Stop rule outcome)).0 e in cc
 
     stop : (rule : Naptr) (outcome : Outcome) → slice_get top.edges top.rank ≡ Some (Stop rule outcome)
         → (domain : Option Labels) → top.domain ≡ domain → Answered
     stop rule outcome e None at = absurd (no_root rule outcome e at)
     stop rule outcome e (Some d) at =
         onward (Stop rule outcome)
-        (ends ++ (record { ranks = drop 1 (path_of below ++ top.rank ∷ []); domain = d; rule = Some rule; outcome = outcome }) ∷ []) e
-        (state_stop c zones key asked ends below top s d rule outcome (drop 1 (path_of below ++ top.rank ∷ [])) at e refl)
+        (ends ++ end_by (derivation_in (path_of below ++ top.rank ∷ [])) d (Some rule) outcome ∷ []) e
+        (state_stop c zones keys asked ends below top s d rule outcome at e)
 
     module _ (m : Labels) (e : slice_get top.edges top.rank ≡ Some (Step m)) where
       back : Contains (domains_of below) (Some m) ⊎ (top.domain ≡ Some m) → Answered
-      back on = by (least_in (graph_of c zones) key (path_of below ++ top.rank ∷ []) (domains_of below ++ top.domain ∷ []) (Some m) least)
+      back on = by (least_in (graph_of c zones) keys (path_of below ++ top.rank ∷ []) (domains_of below ++ top.domain ∷ []) (Some m) least)
         where
-          least : IsLeastLoop (tree_of c zones (key ∷ [])) None (path_of below ++ top.rank ∷ []) (domains_of below ++ top.domain ∷ []) (Some m)
-          least = least_loop (tree_of c zones (key ∷ [])) (tree_is offers one c zones key) None s.done
+          least : IsLeastRound (tree_of c zones keys) None (path_of below ++ top.rank ∷ []) (domains_of below ++ top.domain ∷ []) (Some m)
+          least = least_loop (tree_of c zones keys) (tree_is offers one c zones keys) None s.done
               (map found_of ends) (path_of below) top.rank top.domain s.walked
               (domains_of below) (Some m) s.at_top.passes s.at_top.distinct
-              (edge_steps c zones (key ∷ []) top.domain top.edges top.rank m s.at_top.tells e)
-              (way_on c zones key asked ends below top s m on)
+              (edge_steps c zones keys top.domain top.edges top.rank m s.at_top.tells e)
+              (way_on c zones keys asked ends below top s m on)
 
           longer : (qs : List ℕ) (es : List Labels) (d : Labels) → length es ≡ length qs → length (es ++ d ∷ []) ≡ length qs + 1
           longer qs es d h = omega (arith, h, length-append es (d ∷ []))
 
-          by : (qs : List ℕ) × (es : List Labels) × (d : Labels) × (path_of below ++ top.rank ∷ [] ≡ zero ∷ qs)
-              × (domains_of below ++ top.domain ∷ [] ≡ None ∷ somes es) × (Some m ≡ Some d) × IsLeastLoop (graph_of c zones) key qs es d
+          by : (way : Derivation) × (es : List Labels) × (d : Labels) × (path_of below ++ top.rank ∷ [] ≡ way.place ∷ way.ranks)
+              × (domains_of below ++ top.domain ∷ [] ≡ None ∷ somes es) × (Some m ≡ Some d) × IsLeastLoop (graph_of c zones) keys way es d
               → Answered
-          by (qs, es, d, p, ds, same, i) = (
+          by (way, es, d, p, ds, same, i) = (
             report.Loop (record {
-              ranks = qs;
+              place = way.place;
+              ranks = way.ranks;
               domains = es ++ d ∷ [];
-              longer = longer qs es d (passes_count (graph_of c zones) key qs es i.loop.passes);
+              longer = longer way.ranks es d (passes_count (graph_of c zones) i.loop.passes.0 way.ranks es i.loop.passes.2);
             }),
             (es, d, refl, i),
           )
@@ -159,7 +161,7 @@ module _ (offers : ZonesMakeOneOffer) (one : OneOutput) (some : OutputOrNone) (c
       enter new away o is = by (noted o)
         where
           it : End
-          it = record { ranks = drop 1 (path_of below ++ top.rank ∷ []); domain = m; rule = None; outcome = Unserved }
+          it = end_by (derivation_in (path_of below ++ top.rank ∷ [])) m None Unserved
 
           noted : (p : Offer) → (grown : List End) × (((p ≡ offer.Unserved) × (grown ≡ ends ++ it ∷ [])) ⊎ (((p ≡ offer.Unserved) → ⊥) × (grown ≡ ends)))
           noted (offer.Rules rules) = (ends, inr ((λ f. cc), refl))
@@ -170,7 +172,7 @@ module _ (offers : ZonesMakeOneOffer) (one : OneOutput) (some : OutputOrNone) (c
           by (grown, adds) =
               let x = some_edges one some c zones m o is in
               deeper (asked ++ m ∷ []) grown (below ++ top ∷ []) (record { domain = Some m; edges = x.0; rank = 0 })
-              (state_enter c zones key asked ends below top s m e o x.0 grown (drop 1 (path_of below ++ top.rank ∷ [])) new away is x.1 refl adds)
+              (state_enter c zones keys asked ends below top s m e o x.0 grown new away is x.1 adds)
               (distinct_push asked m once new)
               (omega (arith, room, length-append asked (m ∷ [])))
 
@@ -180,7 +182,7 @@ module _ (offers : ZonesMakeOneOffer) (one : OneOutput) (some : OutputOrNone) (c
       away_from fails other (inr at) = other at
 
       further : (Contains (domains_of below) (Some m) ⊎ (top.domain ≡ Some m) → ⊥) → Either (Contains asked m) → Answered
-      further away (inl h) = onward (Step m) ends e (state_skip c zones key asked ends below top s m e h away)
+      further away (inl h) = onward (Step m) ends e (state_skip c zones keys asked ends below top s m e h away)
       further away (inr new) = let o = offered m in enter new away o.0 o.1
 
       step : Either (Contains (domains_of below) (Some m)) → Either (top.domain ≡ Some m) → Answered
@@ -200,12 +202,12 @@ module _ (offers : ZonesMakeOneOffer) (one : OneOutput) (some : OutputOrNone) (c
 
   all_turns : (n : ℕ) → AnswersWith n
   all_turns zero asked ends below top s once room =
-      let few = needed_bound one c zones key asked (record { once = once; only = s.needed }) in
+      let few = needed_bound one c zones keys keys asked (λ key held. held) (record { once = once; only = s.needed }) in
       absurd (omega (arith, few, room))
   all_turns (suc n) asked ends below top s once room =
       turns n (left_at top + sum_by left_at below) (all_turns n) asked ends below top s once room (omega arith)
 
   pub some_report : Answered
   some_report =
-      all_turns (rules_and_aliases zones + 2) [] [] [] (record { domain = None; edges = Step key ∷ []; rank = 0 })
-      (state_start offers one c zones key) tt (omega arith)
+      all_turns (rules_and_aliases zones + length keys + 1) [] [] [] (record { domain = None; edges = map (λ key. Step key) keys; rank = 0 })
+      (state_start offers one c zones keys) tt (omega arith)

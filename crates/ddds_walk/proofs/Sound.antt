@@ -1,15 +1,18 @@
 -- What holds of a walk over any source, how its rest falls, and the turns that ask nobody.
-use Rattle.std.proofs.Common.{◌≡◌, ℕ, ◌+◌, ◌<◌, ◌≤◌, ◌⊎◌, List, [], ◌∷◌, ◌++◌, length, drop, filter_map, refl, sym, ◌∙◌}
+use Rattle.std.proofs.Common.{◌≡◌, ℕ, ◌+◌, ◌<◌, ◌≤◌, ◌⊎◌, List, [], ◌∷◌, ◌++◌, length, filter_map, refl, sym, ◌∙◌}
 use Rattle.std.proofs.Common.{ap, subst, inl, inr, arith, suc, length-append}
 use Rattle.std.specs.Prelude.{Contains, Option, Some, None, IsSome, slice_get, get_or}
 use Rattle.std.specs.List.{AllByRecursion, sum_by}
-use Rattle.std.proofs.lemmas.List.{map-append, length-map, length-drop}
+use Rattle.std.proofs.lemmas.List.{map-append, length-map}
+use Rattle.std.proofs.lemmas.List.Elements.{Contains-append_left, Contains-push}
 use Rattle.std.proofs.lemmas.List.Sums.{sum_by-append}
 use Rattle.std.proofs.lemmas.Option.{slice_get_within, slice_get_cases}
 use Rattle.naptr_data.specs.Zones.{Labels}
 use Rattle.naptr_rule.specs.declared.rule.Naptr.{Naptr}
-use Rattle.ddds_walk.specs.Turns.{IsSound, IsPast, IsWay, left_at, left_in, IsNextEnd, HasMoved}
-use Rattle.ddds_walk.specs.Ways.{path_of, domains_of}
+use Rattle.ddds_walk.specs.Turns.{IsSound, IsPast, IsWay, left_at, left_in, IsNextEnd, IsPlaced, HasMoved, derivation_of}
+use Rattle.ddds_walk.specs.Ways.{derivation_in, domains_of, end_by, path_of}
+use Rattle.ddds_walk.specs.Report.{way_round}
+use Rattle.ddds_walk.specs.declared.derivation.Derivation.{Derivation}
 use Rattle.ddds_walk.specs.declared.edge.Edge.{Edge}
 use Rattle.ddds_walk.specs.declared.edge.Edge.TheVariants.{Step, Stop}
 use Rattle.ddds_walk.specs.declared.frame.Frame.{Frame}
@@ -81,11 +84,48 @@ way_count (Some x ∷ xs) h = absurd h
 abbrev pub onward : Walker → List End → Walker
 onward w ends = record w { ends = ends; top = record w.top { rank = w.top.rank + 1 } }
 
+-- a derivation has one rank for each frame below the topmost one
+ranks_count : (below : List Frame) (rank : ℕ) → length (derivation_in (path_of below ++ rank ∷ [])).ranks ≡ length below
+ranks_count [] rank = refl
+ranks_count (f ∷ below) rank = omega (arith, length-append (path_of below) (rank ∷ []), length-map below (λ (x : Frame). x.rank))
+
+-- the first of a way is the root
+root_first : (below : List Frame) (f : Frame) (d : Option Labels) → IsWay (domains_of (f ∷ below) ++ d ∷ []) → f.domain ≡ None
+root_first below f d h = by f.domain refl
+  where
+    by : (o : Option Labels) → f.domain ≡ o → f.domain ≡ None
+    by None e = e
+    by (Some x) e = absurd (subst (λ v. IsWay (v ∷ domains_of below ++ d ∷ [])) e h)
+
+-- the root has few edges, so the place of a key is a small number
+pub is_placed : (limit : ℕ) (w : Walker) → IsSound limit w → IsPlaced w
+is_placed limit w sound = by w.below refl
+  where
+    top_root : IsWay (w.top.domain ∷ []) → w.top.domain ≡ None
+    top_root h = at w.top.domain refl
+      where
+        at : (o : Option Labels) → w.top.domain ≡ o → w.top.domain ≡ None
+        at None e = e
+        at (Some x) e = absurd (subst (λ v. IsWay (v ∷ [])) e h)
+
+    by : (below : List Frame) → w.below ≡ below → IsPlaced w
+    by [] e =
+        let root = top_root (subst (λ v. IsWay (domains_of v ++ w.top.domain ∷ [])) e sound.way) in
+        let few = sound.top.1.keys root in
+        let within = sound.top.0 in
+        subst (λ v. (derivation_in (path_of v ++ w.top.rank ∷ [])).place < 256) (sym e) (omega arith)
+    by (f ∷ below) e =
+        let root = root_first below f w.top.domain (subst (λ v. IsWay (domains_of v ++ w.top.domain ∷ [])) e sound.way) in
+        let past = (subst (λ v. AllByRecursion IsPast v) e sound.below).0 in
+        let few = past.1.keys root in
+        let within = past.0 in
+        subst (λ v. (derivation_in (path_of v ++ w.top.rank ∷ [])).place < 256) (sym e) (omega arith)
+
 module _ (limit : ℕ) (w : Walker) (sound : IsSound limit w) where
   pub sound_on : (e : Edge) (ends : List End) → slice_get w.top.edges w.top.rank ≡ Some e → IsSound limit (onward w ends)
   sound_on e ends h =
       let l = slice_get_within w.top.edges w.top.rank e h in
-      record { once = sound.once; few = sound.few; below = sound.below; top = (omega (arith, l), sound.top.1); way = sound.way }
+      record { once = sound.once; few = sound.few; below = sound.below; top = (omega (arith, l), sound.top.1); way = sound.way; met = sound.met }
 
   pub falls_on : (e : Edge) (ends : List End) → slice_get w.top.edges w.top.rank ≡ Some e
       → left_in limit (onward w ends) < left_in limit w
@@ -97,17 +137,17 @@ module _ (limit : ℕ) (w : Walker) (sound : IsSound limit w) where
     asked = refl;
     sound = sound_on (Step m) w.ends h;
     falls = λ _. falls_on (Step m) w.ends h;
-    says = λ c zones key s. state_skip c zones key w.asked w.ends w.below w.top s m h k away;
+    says = λ c zones keys s. state_skip c zones keys w.asked w.ends w.below w.top s m h k away;
   }
 
-  pub moved_stop : (d : Labels) (rule : Naptr) (o : Outcome) (ranks : List ℕ) → w.top.domain ≡ Some d
-      → slice_get w.top.edges w.top.rank ≡ Some (Stop rule o) → ranks ≡ drop 1 (path_of w.below ++ w.top.rank ∷ [])
-      → HasMoved limit w (onward w (w.ends ++ (record { ranks = ranks; domain = d; rule = Some rule; outcome = o }) ∷ [])) On
-  moved_stop d rule o ranks at h r = record {
+  pub moved_stop : (d : Labels) (rule : Naptr) (o : Outcome) → w.top.domain ≡ Some d
+      → slice_get w.top.edges w.top.rank ≡ Some (Stop rule o)
+      → HasMoved limit w (onward w (w.ends ++ end_by (derivation_of w) d (Some rule) o ∷ [])) On
+  moved_stop d rule o at h = record {
     asked = refl;
-    sound = sound_on (Stop rule o) (w.ends ++ (record { ranks = ranks; domain = d; rule = Some rule; outcome = o }) ∷ []) h;
-    falls = λ _. falls_on (Stop rule o) (w.ends ++ (record { ranks = ranks; domain = d; rule = Some rule; outcome = o }) ∷ []) h;
-    says = λ c zones key s. state_stop c zones key w.asked w.ends w.below w.top s d rule o ranks at h r;
+    sound = sound_on (Stop rule o) (w.ends ++ end_by (derivation_of w) d (Some rule) o ∷ []) h;
+    falls = λ _. falls_on (Stop rule o) (w.ends ++ end_by (derivation_of w) d (Some rule) o ∷ []) h;
+    says = λ c zones keys s. state_stop c zones keys w.asked w.ends w.below w.top s d rule o at h;
   }
 
   -- the rank of a lower frame can go on
@@ -127,11 +167,21 @@ module _ (limit : ℕ) (w : Walker) (sound : IsSound limit w) where
       top = (omega (arith, past.0), past.1);
       way =
           way_front lower f w.top.domain (subst (λ v. IsWay (domains_of v ++ w.top.domain ∷ [])) is sound.way);
+      met = λ d on. sound.met d (inl (subst (λ v. Contains v (Some d)) (sym domains) (among d on)));
     };
     falls = λ _. falls;
-    says = λ c zones key s. state_leave c zones key w.asked w.ends w.below w.top s lower f is none;
+    says = λ c zones keys s. state_leave c zones keys w.asked w.ends w.below w.top s lower f is none;
   }
     where
+      domains : domains_of w.below ≡ domains_of lower ++ f.domain ∷ []
+      domains = ap domains_of is ∙ map-append (λ (x : Frame). x.domain) lower (f ∷ [])
+
+      among : (d : Labels) → Contains (domains_of lower) (Some d) ⊎ (f.domain ≡ Some d)
+          → Contains (domains_of lower ++ f.domain ∷ []) (Some d)
+      among d (inl h) = Contains-append_left (domains_of lower) (f.domain ∷ []) (Some d) h
+      among d (inr e) =
+          subst (λ v. Contains (domains_of lower ++ f.domain ∷ []) v) e (Contains-push (domains_of lower) f.domain)
+
       all : AllByRecursion IsPast (lower ++ f ∷ [])
       all = subst (λ v. AllByRecursion IsPast v) is sound.below
 
@@ -150,19 +200,19 @@ module _ (limit : ℕ) (w : Walker) (sound : IsSound limit w) where
     asked = refl;
     sound = sound;
     falls = λ e. cc;
-    says = λ c zones key s. let (a, all) = state_end c zones key w.asked w.ends w.below w.top s is none in
+    says = λ c zones keys s. let (a, all) = state_end c zones keys w.asked w.ends w.below w.top s is none in
         (a, record { some = record { once = sound.once; only = s.needed }; all = all });
   }
 
   pub moved_back : (m : Labels) (path : LoopPath) → slice_get w.top.edges w.top.rank ≡ Some (Step m)
-      → path.ranks ≡ drop 1 (path_of w.below ++ w.top.rank ∷ [])
+      → way_round path ≡ derivation_of w
       → path.domains ≡ filter_map (λ (d : Option Labels). d) (domains_of w.below ++ w.top.domain ∷ []) ++ m ∷ []
       → Contains (domains_of w.below) (Some m) ⊎ (w.top.domain ≡ Some m) → HasMoved limit w w (Back path)
   moved_back m path h r d on = record {
     asked = refl;
     sound = sound;
     falls = λ e. cc;
-    says = λ c zones key s. let (a, all) = state_back c zones key w.asked w.ends w.below w.top s m h path r d on in
+    says = λ c zones keys s. let (a, all) = state_back c zones keys w.asked w.ends w.below w.top s m h path r d on in
         (a, record { some = record { once = sound.once; only = s.needed }; all = all });
   }
 
@@ -170,20 +220,19 @@ module _ (limit : ℕ) (w : Walker) (sound : IsSound limit w) where
   pub moved_end : (e : End) → IsNextEnd w e → HasMoved limit w (onward w (w.ends ++ e ∷ [])) On
   moved_end e (d, rule, outcome, at, edge, f) =
       subst (λ v. HasMoved limit w (onward w (w.ends ++ v ∷ [])) On) (sym f)
-      (moved_stop d rule outcome (drop 1 (path_of w.below ++ w.top.rank ∷ [])) at edge refl)
+      (moved_stop d rule outcome at edge)
 
   -- a loop has one domain more than ranks
-  pub one_longer : (m : Labels) (ranks : List ℕ) (domains : List Labels) → ranks ≡ drop 1 (path_of w.below ++ w.top.rank ∷ [])
+  pub one_longer : (m : Labels) (way : Derivation) (domains : List Labels) → way ≡ derivation_of w
       → domains ≡ filter_map (λ (d : Option Labels). d) (domains_of w.below ++ w.top.domain ∷ []) ++ m ∷ []
-      → length domains ≡ length ranks + 1
-  one_longer m ranks domains r d =
-      let a : length ranks ≡ length (drop 1 (path_of w.below ++ w.top.rank ∷ [])) = ap length r in
+      → length domains ≡ length way.ranks + 1
+  one_longer m way domains r d =
+      let a : length way.ranks ≡ length (derivation_of w).ranks = ap (λ (v : Derivation). length v.ranks) r in
+      let e = ranks_count w.below w.top.rank in
       let b : length domains ≡ length (filter_map (λ (d : Option Labels). d) (domains_of w.below ++ w.top.domain ∷ []) ++ m ∷ []) = ap length d in
       let n = way_count (domains_of w.below ++ w.top.domain ∷ []) sound.way in
       omega (
         arith,
-        length-drop 1 (path_of w.below ++ w.top.rank ∷ []),
-        length-append (path_of w.below) (w.top.rank ∷ []),
         length-append (filter_map (λ (d : Option Labels). d) (domains_of w.below ++ w.top.domain ∷ [])) (m ∷ []),
         length-append (domains_of w.below) (w.top.domain ∷ []),
         length-map w.below (λ (f : Frame). f.rank),

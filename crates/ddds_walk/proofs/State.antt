@@ -1,23 +1,23 @@
 -- The state of a walk over told zones, and how each turn changes it.
-use Rattle.std.proofs.Common.{◌≡◌, ℕ, zero, suc, ◌+◌, ◌≤◌, ◌⊎◌, List, [], ◌∷◌, ◌++◌, drop, map, filter_map, refl, sym, ◌∙◌, ap, subst, inl, inr, arith}
+use Rattle.std.proofs.Common.{◌≡◌, ℕ, zero, suc, ◌+◌, ◌≤◌, ◌⊎◌, List, [], ◌∷◌, ◌++◌, map, filter_map, refl, sym, ◌∙◌, ap, subst, inl, inr, arith}
 use Rattle.std.proofs.lemmas.List.{map-append}
 use Rattle.std.specs.Prelude.{Contains, Option, Some, None, slice_get}
 use Rattle.std.proofs.lemmas.List.Elements.{Contains-append_left, Contains-push, Contains-push_cases}
 use Rattle.naptr_data.specs.Zones.{Labels, Zone}
 use Rattle.naptr_rule.specs.declared.rule.Naptr.{Naptr}
-use Rattle.ddds_walk.specs.Graph.{Graph, graph_of, Leads}
+use Rattle.ddds_walk.specs.Graph.{graph_of, Leads, LeadsFrom}
 use Rattle.ddds_walk.specs.Report.{IsEnd}
 use Rattle.ddds_walk.specs.Rules.{Client, IsEdge}
-use Rattle.ddds_walk.specs.Ways.{by_rule, Walked, IsGraph, RootedSteps, tree_of, Tells, path_of, domains_of, IsFrame, last_rank, found_of, IsState}
+use Rattle.ddds_walk.specs.Ways.{by_rule, Walked, IsGraph, RootedSteps, tree_of, Tells, path_of, domains_of, IsFrame, last_rank, found_of, end_by, derivation_in, IsState}
+use Rattle.ddds_walk.specs.declared.derivation.Derivation.{Derivation}
 use Rattle.ddds_walk.specs.declared.edge.Edge.{Edge}
 use Rattle.ddds_walk.specs.declared.edge.Edge.TheVariants.{Step, Stop}
 use Rattle.ddds_walk.specs.declared.frame.Frame.{Frame}
 use Rattle.ddds_walk.specs.declared.report.End.{End}
 use Rattle.ddds_walk.specs.declared.report.Outcome.{Outcome}
 use Rattle.ddds_walk.proofs.Elements.{has_same}
-use Rattle.ddds_walk.proofs.Graphs.{leads_by}
 use Rattle.ddds_walk.proofs.Steps.{as_found, skip, stop}
-use Rattle.ddds_walk.proofs.Rooted.{somes, leads_in}
+use Rattle.ddds_walk.proofs.Rooted.{somes, leads_some}
 use Rattle.ddds_walk.proofs.Reporting.{tree_is}
 
 -- the edge that is told at the cursor is one of the graph
@@ -62,25 +62,24 @@ pub some_of : (es : List Labels) → filter_map (λ (d : Option Labels). d) (som
 some_of [] = refl
 some_of (e ∷ es) = ap (λ v. e ∷ v) (some_of es)
 
-module _ (c : Client) (zones : List Zone) (key : Labels) where
-  g : Graph Labels
-  g = graph_of c zones
+-- where ranks are a derivation, so are they with one more
+pub derivation_push : (rs : List ℕ) (r : ℕ) → (derivation_in rs).place ∷ (derivation_in rs).ranks ≡ rs
+    → derivation_in (rs ++ r ∷ []) ≡ record { place = (derivation_in rs).place; ranks = (derivation_in rs).ranks ++ r ∷ [] }
+derivation_push [] r e = cc
+derivation_push (place ∷ rs) r e = refl
 
-  -- a derivation from the root to a domain begins with the rank of the key
-  pub from_root : (rs : List ℕ) (m : Labels) → Leads (tree_of c zones (key ∷ [])) None rs (Some m)
-      → (zero ∷ drop 1 rs ≡ rs) × Leads (graph_of c zones) key (drop 1 rs) m
-  from_root rs m l = by (leads_in (graph_of c zones) key rs m l)
-    where
-      by : (qs : List ℕ) × (rs ≡ zero ∷ qs) × Leads (graph_of c zones) key qs m
-          → (zero ∷ drop 1 rs ≡ rs) × Leads (graph_of c zones) key (drop 1 rs) m
-      by (qs, e, h) =
-          let d : drop 1 rs ≡ qs = ap (drop {A = ℕ} 1) e in
-          (ap (λ v. zero ∷ v) d ∙ sym e, leads_by (graph_of c zones) qs (drop 1 rs) key m (sym d) h)
+module _ (c : Client) (zones : List Zone) (keys : List Labels) where
+  -- ranks from the root to a domain are a derivation
+  pub from_root : (rs : List ℕ) (m : Labels) → Leads (tree_of c zones keys) None rs (Some m)
+      → ((derivation_in rs).place ∷ (derivation_in rs).ranks ≡ rs) × LeadsFrom (graph_of c zones) keys (derivation_in rs) m
+  from_root [] m l = cc
+  from_root (r ∷ rs) m (None, s, l) = absurd s
+  from_root (r ∷ rs) m (Some k, s, l) = (refl, (k, s, leads_some (graph_of c zones) keys rs k m l))
 
   module _ (asked : List Labels) (ends : List End) (below : List Frame) (top : Frame)
-      (s : IsState c zones key asked ends below top) where
-    laws : IsGraph (tree_of c zones (key ∷ []))
-    laws = tree_is s.offers s.outputs c zones key
+      (s : IsState c zones keys asked ends below top) where
+    laws : IsGraph (tree_of c zones keys)
+    laws = tree_is s.offers s.outputs c zones keys
 
     -- a domain on the way is one of those of the frames below, or that of the topmost one
     pub on_way : (m : Labels) → Contains (domains_of below ++ top.domain ∷ []) (Some m)
@@ -94,7 +93,7 @@ module _ (c : Client) (zones : List Zone) (key : Labels) where
         has_same (domains_of below ++ top.domain ∷ []) top.domain (Some m) e (Contains-push (domains_of below) top.domain)
 
     -- the topmost frame goes on after the edge that it stood at
-    next_frame : IsFrame c zones (key ∷ []) below (record top { rank = top.rank + 1 })
+    next_frame : IsFrame c zones keys below (record top { rank = top.rank + 1 })
     next_frame = record {
       leads = s.at_top.leads;
       passes = s.at_top.passes;
@@ -108,14 +107,14 @@ module _ (c : Client) (zones : List Zone) (key : Labels) where
     -- the edge leads to a domain that was asked for, and is not on the way
     pub state_skip : (m : Labels) → slice_get top.edges top.rank ≡ Some (Step m) → Contains asked m
         → ¬ (Contains (domains_of below) (Some m) ⊎ (top.domain ≡ Some m))
-        → IsState c zones key asked ends below (record top { rank = top.rank + 1 })
+        → IsState c zones keys asked ends below (record top { rank = top.rank + 1 })
     state_skip m e h away = record {
       offers = s.offers;
       outputs = s.outputs;
       done = s.done;
-      walked = subst (λ v. Walked (tree_of c zones (key ∷ [])) None s.done (map found_of ends) (path_of below) v top.domain) add_one
-          (skip (tree_of c zones (key ∷ [])) laws None s.done (map found_of ends) (path_of below) top.rank top.domain s.walked (Some m)
-          (edge_steps c zones (key ∷ []) top.domain top.edges top.rank m s.at_top.tells e) (finished ((s.met m).0 h)));
+      walked = subst (λ v. Walked (tree_of c zones keys) None s.done (map found_of ends) (path_of below) v top.domain) add_one
+          (skip (tree_of c zones keys) laws None s.done (map found_of ends) (path_of below) top.rank top.domain s.walked (Some m)
+          (edge_steps c zones keys top.domain top.edges top.rank m s.at_top.tells e) (finished ((s.met m).0 h)));
       at_top = next_frame;
       fronts = s.fronts;
       ends_are = s.ends_are;
@@ -128,16 +127,16 @@ module _ (c : Client) (zones : List Zone) (key : Labels) where
         finished (inr k) = absurd (away (on_way m k))
 
     -- the edge is that of a terminal rule
-    pub state_stop : (d : Labels) (rule : Naptr) (o : Outcome) (ranks : List ℕ) → top.domain ≡ Some d
-        → slice_get top.edges top.rank ≡ Some (Stop rule o) → ranks ≡ drop 1 (path_of below ++ top.rank ∷ [])
-        → IsState c zones key asked (ends ++ (record { ranks = ranks; domain = d; rule = Some rule; outcome = o }) ∷ []) below
+    pub state_stop : (d : Labels) (rule : Naptr) (o : Outcome) → top.domain ≡ Some d
+        → slice_get top.edges top.rank ≡ Some (Stop rule o)
+        → IsState c zones keys asked (ends ++ end_by (derivation_in (path_of below ++ top.rank ∷ [])) d (Some rule) o ∷ []) below
         (record top { rank = top.rank + 1 })
-    state_stop d rule o ranks at e r-is = record {
+    state_stop d rule o at e = record {
       offers = s.offers;
       outputs = s.outputs;
       done = s.done;
-      walked = subst (λ v. Walked (tree_of c zones (key ∷ [])) None s.done (map found_of (ends ++ it ∷ [])) (path_of below) v top.domain) add_one
-          (stop (tree_of c zones (key ∷ [])) laws None s.done (map found_of ends) (path_of below) top.rank top.domain s.walked
+      walked = subst (λ v. Walked (tree_of c zones keys) None s.done (map found_of (ends ++ it ∷ [])) (path_of below) v top.domain) add_one
+          (stop (tree_of c zones keys) laws None s.done (map found_of ends) (path_of below) top.rank top.domain s.walked
           (map found_of (ends ++ it ∷ [])) stops grown);
       at_top = next_frame;
       fronts = s.fronts;
@@ -147,30 +146,41 @@ module _ (c : Client) (zones : List Zone) (key : Labels) where
     }
       where
         it : End
-        it = record { ranks = ranks; domain = d; rule = Some rule; outcome = o }
+        it = end_by (derivation_in (path_of below ++ top.rank ∷ [])) d (Some rule) o
 
         edge : IsEdge c zones d top.rank (Stop rule o)
-        edge = (subst (λ v. Tells c zones (key ∷ []) v top.edges) at s.at_top.tells top.rank (Stop rule o)).0 e
+        edge = (subst (λ v. Tells c zones keys v top.edges) at s.at_top.tells top.rank (Stop rule o)).0 e
 
-        stops : (tree_of c zones (key ∷ [])).Stops top.domain top.rank
-        stops = subst (λ v. (tree_of c zones (key ∷ [])).Stops v top.rank) (sym at) (rule, o, edge)
+        stops : (tree_of c zones keys).Stops top.domain top.rank
+        stops = subst (λ v. (tree_of c zones keys).Stops v top.rank) (sym at) (rule, o, edge)
 
-        root : (zero ∷ drop 1 (path_of below) ≡ path_of below) × Leads (graph_of c zones) key (drop 1 (path_of below)) d
-        root = from_root (path_of below) d (subst (λ v. Leads (tree_of c zones (key ∷ [])) None (path_of below) v) at s.at_top.leads)
+        front : Derivation
+        front = derivation_in (path_of below)
 
-        split : ranks ≡ drop 1 (path_of below) ++ top.rank ∷ []
-        split = r-is ∙ ap (λ v. drop {A = ℕ} 1 (v ++ top.rank ∷ [])) (sym root.0)
+        root : (front.place ∷ front.ranks ≡ path_of below) × LeadsFrom (graph_of c zones) keys front d
+        root = from_root (path_of below) d (subst (λ v. Leads (tree_of c zones keys) None (path_of below) v) at s.at_top.leads)
+
+        way : Derivation
+        way = record { place = front.place; ranks = front.ranks ++ top.rank ∷ [] }
+
+        split : derivation_in (path_of below ++ top.rank ∷ []) ≡ way
+        split = derivation_push (path_of below) top.rank root.0
+
+        it-is : it ≡ end_by way d (Some rule) o
+        it-is = ap (λ v. end_by v d (Some rule) o) split
+
+        found_by : found_of (end_by way d (Some rule) o) ≡ as_found (path_of below ++ top.rank ∷ []) (by_rule top.domain top.rank)
+        found_by i = record {
+          ranks = (ap (λ v. v ++ top.rank ∷ []) root.0) i;
+          mark = (ap (λ v. by_rule (Some d) v) (last_push front.ranks top.rank) ∙ ap (λ v. by_rule v top.rank) (sym at)) i;
+        }
 
         found : found_of it ≡ as_found (path_of below ++ top.rank ∷ []) (by_rule top.domain top.rank)
-        found i = record {
-          ranks = (ap (λ v. zero ∷ v) split ∙ ap (λ v. v ++ top.rank ∷ []) root.0) i;
-          mark = (ap (λ v. by_rule (Some d) (last_rank v)) split ∙ ap (λ v. by_rule (Some d) v) (last_push (drop 1 (path_of below)) top.rank)
-              ∙ ap (λ v. by_rule v top.rank) (sym at)) i;
-        }
+        found = ap found_of it-is ∙ found_by
 
         grown : map found_of (ends ++ it ∷ []) ≡ map found_of ends ++ as_found (path_of below ++ top.rank ∷ []) (by_rule top.domain top.rank) ∷ []
         grown = map-append found_of ends (it ∷ []) ∙ ap (λ v. map found_of ends ++ v ∷ []) found
 
-        by : (x : End) → Contains ends x ⊎ (it ≡ x) → IsEnd c zones key x
+        by : (x : End) → Contains ends x ⊎ (it ≡ x) → IsEnd c zones keys x
         by x (inl h) = s.ends_are x h
-        by x (inr f) = subst (λ v. IsEnd c zones key v) f (drop 1 (path_of below), top.rank, split, root.1, edge)
+        by x (inr f) = subst (λ v. IsEnd c zones keys v) (sym it-is ∙ f) (front.ranks, top.rank, refl, root.1, edge)

@@ -58,14 +58,14 @@ module _ {V : Type 0} (g : Graph V) (laws : IsGraph g) (key : V) (done : List V)
       → xs ≡ found ++ as_found rs mark ∷ []
       → ((e : Found V) → Contains found e → Less e.ranks rs)
       → ((e : Found V) → Contains found e → e.mark ≡ mark → ⊥)
-      → AreDistinct (marks_of xs) × AreRising (ranks_of xs)
+      → AreDistinct (marks_of xs) × AreRising Less (ranks_of xs)
   fresh_ends rs mark xs e below new =
       let n : marks_of xs ≡ marks_of found ++ mark ∷ [] =
       ap marks_of e ∙ map-append (λ (v : Found V). v.mark) found (as_found rs mark ∷ []) in
       let r : ranks_of xs ≡ ranks_of found ++ rs ∷ [] =
       ap ranks_of e ∙ map-append (λ (v : Found V). v.ranks) found (as_found rs mark ∷ []) in (
         subst (λ v. AreDistinct v) (sym n) (distinct_push (marks_of found) mark w.once once),
-        subst (λ v. AreRising v) (sym r) (rising_push (ranks_of found) rs w.rising rises),
+        subst (λ v. AreRising Less v) (sym r) (rising_push (ranks_of found) rs w.rising rises),
       )
     where
       once : Contains (marks_of found) mark → ⊥
@@ -218,7 +218,7 @@ module _ {V : Type 0} (g : Graph V) (laws : IsGraph g) (key : V) (done : List V)
       new : (e : Found V) → Contains found e → e.mark ≡ by_rule top next → ⊥
       new e k n = let x = w.sound e k in fresh e.ranks (ends_marked g e.ranks key e.mark (by_rule top next) n x.0) x.1
 
-      ends : AreDistinct (marks_of grown) × AreRising (ranks_of grown)
+      ends : AreDistinct (marks_of grown) × AreRising Less (ranks_of grown)
       ends = fresh_ends (path ++ next ∷ []) (by_rule top next) grown g-is (λ e k. (w.sound e k).1) new
 
       sound : (e : Found V) → Contains found e ⊎ (it ≡ e)

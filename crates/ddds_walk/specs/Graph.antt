@@ -1,10 +1,11 @@
 -- Domains and the numbered edges between them. RFC 3402, section 3: a rule that is not terminal gives the next key, and
 -- a terminal one ends the way. The numbers of the edges are this project's own.
-use Rattle.std.specs.Prelude.{◌≡◌, ℕ, List, [], ◌∷◌}
+use Rattle.std.specs.Prelude.{◌≡◌, ℕ, List, [], ◌∷◌, Some, slice_get}
 use Rattle.naptr_data.specs.Zones.{Labels, Zone, IsOffer}
 use Rattle.naptr_data.specs.declared.offer.Offer.TheVariants.{Unserved}
 use Rattle.naptr_rule.specs.declared.rule.Naptr.{Naptr}
 use Rattle.ddds_walk.specs.Rules.{Client, IsEdge}
+use Rattle.ddds_walk.specs.declared.derivation.Derivation.{Derivation}
 use Rattle.ddds_walk.specs.declared.edge.Edge.TheVariants.{Step, Stop}
 use Rattle.ddds_walk.specs.declared.report.Outcome.{Outcome}
 
@@ -31,7 +32,17 @@ module _ {V : Type 0} (g : Graph V) where
   Leads k [] d = k ≡ d
   Leads k (r ∷ rs) d = (m : V) × g.Steps k r m × Leads m rs d
 
-  -- the domains that a derivation passes before its last one, in order
+  -- the domains that these edges pass before the last one, in order
   abbrev pub Passes : V → List ℕ → List V → Type 0
   Passes k [] ds = ds ≡ []
   Passes k (r ∷ rs) ds = (m : V) × (rest : List V) × g.Steps k r m × Passes m rs rest × (ds ≡ k ∷ rest)
+
+-- from several keys: a derivation leads from the key at its place, along its ranks
+module _ {V : Type 0} (g : Graph V) (keys : List V) where
+  -- .. to this domain
+  abbrev pub LeadsFrom : Derivation → V → Type 0
+  LeadsFrom way d = (key : V) × (slice_get keys way.place ≡ Some key) × Leads g key way.ranks d
+
+  -- .. and passes these domains before its last one, in order
+  abbrev pub PassesFrom : Derivation → List V → Type 0
+  PassesFrom way ds = (key : V) × (slice_get keys way.place ≡ Some key) × Passes g key way.ranks ds

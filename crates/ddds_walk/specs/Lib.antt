@@ -2,6 +2,7 @@ pub mod Asking
 pub mod Clients
 pub mod Graph
 pub mod Kept
+pub mod Keys
 pub mod Order
 pub mod Report
 pub mod Rules

@@ -1,5 +1,5 @@
 -- Words for the state of a walk, for the functions below `walk`. The walk begins at a root, from which one edge leads
--- to each key; so a derivation from a key is one from the root without its first rank.
+-- to each key; so the first rank from the root is the place of a key, and a derivation is the rest.
 use Rattle.std.specs.Prelude.{◌≡◌, ◌↔◌, ◌⊎◌, ℕ, List, [], ◌∷◌, ◌++◌, map, slice_get, Contains, Option, Some, None}
 use Rattle.naptr_data.specs.Laws.{ZonesMakeOneOffer}
 use Rattle.naptr_data.specs.Sources.{AreDistinct}
@@ -10,10 +10,12 @@ use Rattle.ddds_walk.specs.Graph.{Graph, graph_of, Leads, Passes}
 use Rattle.ddds_walk.specs.Order.{Less, AreRising}
 use Rattle.ddds_walk.specs.Report.{IsEnd, IsNeeded}
 use Rattle.ddds_walk.specs.Rules.{Client, IsEdge}
+use Rattle.ddds_walk.specs.declared.derivation.Derivation.{Derivation}
 use Rattle.ddds_walk.specs.declared.edge.Edge.{Edge}
 use Rattle.ddds_walk.specs.declared.edge.Edge.TheVariants.{Step}
 use Rattle.ddds_walk.specs.declared.frame.Frame.{Frame}
 use Rattle.ddds_walk.specs.declared.report.End.{End}
+use Rattle.ddds_walk.specs.declared.report.Outcome.{Outcome}
 
 -- an end by the domain and the rank of its terminal rule, or by the domain that nobody serves
 pub data Mark (V : Type 0) : Type 0 where
@@ -36,6 +38,30 @@ module _ {V : Type 0} (g : Graph V) where
   EndsAs k [] e = g.Open k × (e ≡ by_domain k)
   EndsAs k (r ∷ rs) e =
       (g.Stops k r × (rs ≡ []) × (e ≡ by_rule k r)) ⊎ ((m : V) × g.Steps k r m × EndsAs m rs e)
+
+-- ranks from a start lead round: to one of the domains that they pass, which are distinct
+pub record IsRound {V : Type 0} (g : Graph V) (start : V) (ranks : List ℕ) (earlier : List V) (last : V) : Type 0 where
+  pub leads : Leads g start ranks last
+  pub passes : Passes g start ranks earlier
+  pub again : Contains earlier last
+  pub others : AreDistinct earlier
+
+-- .. and no lesser ranks do
+pub record IsLeastRound {V : Type 0} (g : Graph V) (start : V) (ranks : List ℕ) (earlier : List V)
+    (last : V) : Type 0 where
+  pub loop : IsRound g start ranks earlier last
+  pub least : (ls : List ℕ) (ds : List V) (d : V) → IsRound g start ls ds d → Less ls ranks → ⊥
+
+-- no ranks from the start lead round
+abbrev pub HasNoRound : {V : Type 0} → Graph V → V → Type 0
+HasNoRound {V} g start = (ls : List ℕ) (ds : List V) (d : V) → IsRound g start ls ds d → ⊥
+
+-- a walk from the start has to open the domain
+abbrev pub IsMet : {V : Type 0} → Graph V → V → V → Type 0
+IsMet {V} g start d =
+    (rs : List ℕ)
+    × Leads g start rs d
+    × ((ls : List ℕ) (ds : List V) (x : V) → IsLeastRound g start ls ds x → Less rs ls)
 
 -- the derivations and the marks of what was found
 abbrev pub ranks_of : {V : Type 0} → List (Found V) → List (List ℕ)
@@ -65,7 +91,7 @@ pub record Walked {V : Type 0} (g : Graph V) (key : V) (done : List V) (found : 
   -- no domain on the path is finished
   pub apart : (rs c : List ℕ) (d : V) → path ≡ rs ++ c → Leads g key rs d → Contains done d → ⊥
   pub once : AreDistinct (marks_of found)
-  pub rising : AreRising (ranks_of found)
+  pub rising : AreRising Less (ranks_of found)
 
 -- the root is none of the domains; from it the edge of rank i leads to key i
 abbrev pub RootedSteps : Graph Labels → List Labels → Option Labels → ℕ → Option Labels → Type 0
@@ -124,22 +150,32 @@ abbrev pub mark_of : Labels → Option Naptr → List ℕ → Mark (Option Label
 mark_of domain None ranks = by_domain (Some domain)
 mark_of domain (Some rule) ranks = by_rule (Some domain) (last_rank ranks)
 
--- an end as it was found from the root, under the first key
+-- an end as it was found from the root: the place of its key is the first rank
 abbrev pub found_of : End → Found (Option Labels)
-found_of e = record { ranks = 0 ∷ e.ranks; mark = mark_of e.domain e.rule e.ranks }
+found_of e = record { ranks = e.place ∷ e.ranks; mark = mark_of e.domain e.rule e.ranks }
+
+-- an end of this derivation
+abbrev pub end_by : Derivation → Labels → Option Naptr → Outcome → End
+end_by way domain rule outcome =
+    record { place = way.place; ranks = way.ranks; domain = domain; rule = rule; outcome = outcome }
+
+-- ranks from the root are a derivation: the first is the place of the key
+abbrev pub derivation_in : List ℕ → Derivation
+derivation_in [] = record { place = 0; ranks = [] }
+derivation_in (place ∷ ranks) = record { place = place; ranks = ranks }
 
 -- where a walk stands, over told zones
-pub record IsState (c : Client) (zones : List Zone) (key : Labels) (asked : List Labels) (ends : List End)
+pub record IsState (c : Client) (zones : List Zone) (keys : List Labels) (asked : List Labels) (ends : List End)
     (below : List Frame) (top : Frame) : Type 0 where
   -- the laws on which all of it rests
   pub offers : ZonesMakeOneOffer
   pub outputs : OneOutput
   pub done : List (Option Labels)
-  pub walked : Walked (tree_of c zones (key ∷ [])) None done (map found_of ends) (path_of below) top.rank top.domain
-  pub at_top : IsFrame c zones (key ∷ []) below top
-  pub fronts : (a b : List Frame) (x : Frame) → below ≡ a ++ x ∷ b → IsFrame c zones (key ∷ []) a x
-  pub ends_are : (e : End) → Contains ends e → IsEnd c zones key e
+  pub walked : Walked (tree_of c zones keys) None done (map found_of ends) (path_of below) top.rank top.domain
+  pub at_top : IsFrame c zones keys below top
+  pub fronts : (a b : List Frame) (x : Frame) → below ≡ a ++ x ∷ b → IsFrame c zones keys a x
+  pub ends_are : (e : End) → Contains ends e → IsEnd c zones keys e
   -- asked are those that are finished or on the path, and each of them is needed
   pub met : (d : Labels) → Contains asked d
       ↔ (Contains done (Some d) ⊎ Contains (domains_of below ++ top.domain ∷ []) (Some d))
-  pub needed : (d : Labels) → Contains asked d → IsNeeded (graph_of c zones) key d
+  pub needed : (d : Labels) → Contains asked d → IsNeeded (graph_of c zones) keys d

@@ -1,7 +1,10 @@
-//! What a resolver finds from a domain on: every end once with its least derivation, or the least loop (RFC 3402).
+//! What a resolver finds from its keys on: every end once with its least derivation, or the least loop (RFC 3402).
 #![tactic(auto)]
 
+mod asked;
 mod client;
+mod derivation;
+mod domain;
 mod domain_edges;
 mod edge;
 mod fault;

@@ -37,7 +37,9 @@ impl Outcome {
 /// An end: a terminal rule, or a domain that nobody serves.
 #[derive(Drop)]
 pub struct End {
-    /// The least derivation: the rank of each rule from the key on, among those followed at its domain.
+    /// The place of the key that the least derivation leads from, from 0.
+    pub place: u8,
+    /// The least derivation: the rank of each rule from that key on, among those followed at its domain.
     pub ranks: Ranks,
     /// The folded domain of the rule, or the one that nobody serves.
     pub domain: Name,
@@ -53,7 +55,9 @@ pub type Ends = List<End>;
 /// A derivation that comes back to one of its domains.
 #[derive(Drop)]
 pub struct LoopPath {
-    /// Its ranks, from the key on.
+    /// The place of the key that it leads from, from 0.
+    pub place: u8,
+    /// Its ranks, from that key on.
     pub ranks: Ranks,
     /// Its folded domains in order, the one that it comes back to last.
     pub domains: Names,

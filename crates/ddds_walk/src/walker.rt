@@ -1,17 +1,19 @@
 //! A walk under way.
-ghost use Rattle.std.specs.Prelude.{◌≡◌, ◌≢◌, ◌↔◌, ◌≤◌, ◌<◌, ◌+◌, [], ◌∷◌, ◌++◌, length, slice_get, filter_map};
+ghost use Rattle.std.specs.Prelude.{◌≡◌, ◌≢◌, ◌↔◌, ◌≤◌, ◌<◌, ◌+◌, [], ◌∷◌, ◌++◌, length, map, slice_get, filter_map};
 ghost use Rattle.std.specs.Prelude.{option_to_list, Contains, IsTrue, Some, None, IfOk, OnOk};
 ghost use Rattle.dns_name.specs.Name.{folded_labels};
 ghost use Rattle.naptr_data.specs.Sources.{AreDistinct, HasFewRules};
 ghost use Rattle.naptr_data.specs.declared.offer.Offer.TheVariants as Offer;
 ghost use Rattle.ddds_walk.specs.Clients.{meant};
-ghost use Rattle.ddds_walk.specs.Turns.{IsSound, IsAtStep, IsAtStop, IsOnTheWay, HasAsked, HasMoved, HasTurned, IsNextEnd};
-ghost use Rattle.ddds_walk.specs.Turns.{Notes, Opens, Sees, derivation_of};
+ghost use Rattle.ddds_walk.specs.Turns.{IsSound, IsAtStep, IsAtStop, IsOnTheWay, HasAsked, HasMoved, HasTurned};
+ghost use Rattle.ddds_walk.specs.Turns.{IsNextEnd, IsPlaced, Notes, Opens, Sees, at_root, derivation_of};
 ghost use Rattle.ddds_walk.specs.Ways.{domains_of};
 ghost use Rattle.ddds_walk.specs.declared.edge.Edge.TheVariants.{Step};
 ghost use Rattle.ddds_walk.specs.declared.walker.Turn.TheVariants as Turn;
 
+use crate::asked::Asked;
 use crate::client::Client;
+use crate::derivation::Derivation;
 use crate::domain_edges::edges_of;
 use crate::edge::{Edge, Edges};
 use crate::fault::WalkFault;
@@ -28,7 +30,7 @@ use std::mem::replace;
 #[derive(Drop)]
 pub(crate) struct Walker {
     // The folded domains that were asked for, in this order.
-    pub(crate) asked: Names,
+    pub(crate) asked: Asked,
     // The ends that were found.
     pub(crate) ends: Ends,
     // The frames on the way to the topmost one, the root first.
@@ -59,24 +61,17 @@ pub(crate) enum Next {
 }
 
 impl Walker {
-    // A walk that stands at the root, from which one edge leads to the key.
-    pub(crate) fn start(alloc: Global, key: &Name) -> Result<Walker, MemoryFault>
-        ensures { IfOk result (λ w. w ≡ record {
-          asked = [];
-          ends = [];
-          below = [];
-          top = record { domain = None; edges = Step (folded_labels key.now) ∷ []; rank = 0 };
-        }) }
+    // A walk that stands at the root, from which one edge leads to each key.
+    pub(crate) fn start(alloc: Global, keys: &[Name]) -> Result<Walker, MemoryFault>
+        ensures { IfOk result (λ w. w ≡ at_root (map folded_labels keys.now)) }
     {
-        let mut edges = Edges::new(alloc);
-        edges.push(Edge::Step(key.fold()))?;
         Ok(Walker {
-            asked: Names::new(alloc),
+            asked: Asked::new(alloc),
             ends: Ends::new(alloc),
             below: Frames::new(alloc),
             top: Frame {
                 domain: None,
-                edges,
+                edges: steps_to(alloc, keys)?,
                 rank: 0,
             },
         })
@@ -153,6 +148,7 @@ impl Walker {
 
     // The end of the terminal rule that is followed next.
     fn next_end(&self, alloc: Global) -> Result<End, MemoryFault>
+        requires placed { IsPlaced self.now }
         requires domain { self.now.top.domain ≢ None }
         requires here { IsAtStop self.now }
         ensures { IfOk result (IsNextEnd self.now) }
@@ -161,12 +157,16 @@ impl Walker {
             unreachable!();
         };
         match self.top.edges.as_slice().get(self.top.rank as usize) {
-            Some(Edge::Stop(rule, outcome)) => Ok(End {
-                ranks: self.derivation(alloc)?,
-                domain,
-                rule: Some(*rule),
-                outcome: outcome.copy(alloc)?,
-            }),
+            Some(Edge::Stop(rule, outcome)) => {
+                let Derivation { place, ranks } = self.derivation(alloc)?;
+                Ok(End {
+                    place,
+                    ranks,
+                    domain,
+                    rule: Some(*rule),
+                    outcome: outcome.copy(alloc)?,
+                })
+            }
             _ => unreachable!(),
         }
     }
@@ -185,15 +185,15 @@ impl Walker {
         ensures turned { HasTurned (meant P.meaning client.now) limit (S.state source.old) (S.state source.new)
             self.old self.new result }
     {
+        if !self.asked.has(next) {
+            return self.enter(alloc, client, source, limit, next);
+        }
         if self.is_on_the_way(next) {
             let path = self.back(alloc, limit, next)?;
             return Ok(Turn::Back(path));
         }
-        if self.has_asked(next) {
-            self.skip(limit, next);
-            return Ok(Turn::On);
-        }
-        self.enter(alloc, client, source, limit, next)
+        self.skip(limit, next);
+        Ok(Turn::On)
     }
 
     // The loop that an edge to a domain on the way closes.
@@ -203,9 +203,13 @@ impl Walker {
         requires on { IsOnTheWay self.now next.now }
         ensures moved { IfOk result (λ path. HasMoved limit self.now self.now (Turn.Back path)) }
     {
-        let ranks = self.derivation(alloc)?;
+        let Derivation { place, ranks } = self.derivation(alloc)?;
         let domains = self.domains(alloc, next)?;
-        Ok(LoopPath { ranks, domains })
+        Ok(LoopPath {
+            place,
+            ranks,
+            domains,
+        })
     }
 
     // Passes over an edge to a domain that was asked for, and is not on the way.
@@ -231,7 +235,6 @@ impl Walker {
         requires sound { IsSound limit self.old }
         requires here { IsAtStep self.old next.now }
         requires new { ¬ Contains self.old.asked next.now }
-        requires away { ¬ IsOnTheWay self.old next.now }
         ensures turned { HasTurned (meant P.meaning client.now) limit (S.state source.old) (S.state source.new)
             self.old self.new result }
     {
@@ -249,6 +252,7 @@ impl Walker {
         offer: &Offer,
     ) -> Result<(), MemoryFault>
         requires few { HasFewRules offer.now }
+        requires placed { IsPlaced self.old }
         ensures asked { self.new.asked ≡ self.old.asked }
         ensures opens { OnOk result (Opens (meant P.meaning client.now) next.now offer.now self.old self.new) }
     {
@@ -264,14 +268,16 @@ impl Walker {
 
     // Notes an end where nobody serves the domain.
     fn note(&mut self, alloc: Global, next: &Name, offer: &Offer) -> Result<(), MemoryFault>
+        requires placed { IsPlaced self.old }
         ensures asked { self.new.asked ≡ self.old.asked }
         ensures notes { OnOk result (Notes next.now offer.now self.old self.new) }
     {
         if !is_unserved(offer) {
             return Ok(());
         }
-        let ranks = self.derivation(alloc)?;
+        let Derivation { place, ranks } = self.derivation(alloc)?;
         self.ends.push(End {
+            place,
             ranks,
             domain: *next,
             rule: None,
@@ -279,9 +285,31 @@ impl Walker {
         })
     }
 
-    // The derivation to the edge that is followed next, from the key on.
-    fn derivation(&self, alloc: Global) -> Result<Ranks, MemoryFault>
-        ensures { IfOk result (λ ranks. ranks ≡ derivation_of self.now) }
+    // The derivation to the edge that is followed next. The rank at the root is the place of the key.
+    fn derivation(&self, alloc: Global) -> Result<Derivation, MemoryFault>
+        requires placed { IsPlaced self.now }
+        ensures { IfOk result (λ way. way ≡ derivation_of self.now) }
+    {
+        Ok(Derivation {
+            place: self.place(),
+            ranks: self.ranks(alloc)?,
+        })
+    }
+
+    // The place of the key that the derivation leads from.
+    fn place(&self) -> u8
+        requires placed { IsPlaced self.now }
+        ensures { result ≡ (derivation_of self.now).place }
+    {
+        match self.below.as_slice() {
+            [] => self.top.rank as u8,
+            [root, ..] => root.rank as u8,
+        }
+    }
+
+    // The ranks of the derivation, from the key on.
+    fn ranks(&self, alloc: Global) -> Result<Ranks, MemoryFault>
+        ensures { IfOk result (λ ranks. ranks ≡ (derivation_of self.now).ranks) }
     {
         let mut ranks = Ranks::new(alloc);
         let Some((_, below)) = self.below.as_slice().split_first() else {
@@ -314,22 +342,23 @@ impl Walker {
     {
         is_among(self.below.as_slice(), domain) || is_domain(self.top.domain, *domain)
     }
+}
 
-    // Whether the domain was asked for.
-    fn has_asked(&self, domain: &Name) -> bool
-        ensures { IsTrue result ↔ Contains self.now.asked domain.now }
-    {
-        self.asked
-            .as_slice()
-            .iter()
-            .any(|name| is_domain(Some(*name), *domain))
+// One edge to each key, folded.
+fn steps_to(alloc: Global, keys: &[Name]) -> Result<Edges, MemoryFault>
+    ensures { IfOk result (λ edges. edges ≡ map (λ key. Step key) (map folded_labels keys.now)) }
+{
+    let mut edges = Edges::new(alloc);
+    for key in keys {
+        edges.push(Edge::Step(key.fold()))?;
     }
+    Ok(edges)
 }
 
 // Asks for a domain, unless so many were asked as the limit allows.
 fn ask<S: RuleSource>(
     alloc: Global,
-    asked: &mut Names,
+    asked: &mut Asked,
     source: &mut S,
     limit: u32,
     next: &Name,
@@ -340,10 +369,10 @@ fn ask<S: RuleSource>(
     requires folded { folded_labels next.now ≡ next.now }
     ensures asked { HasAsked limit (S.state source.old) (S.state source.new) asked.old asked.new next.now result }
 {
-    if asked.as_slice().len() >= limit as usize {
+    if asked.len() >= limit as usize {
         return Err(WalkFault::Limit { asked: limit });
     }
-    asked.push(*next)?;
+    asked.push(next)?;
     match source.offer(alloc, next) {
         Ok(offer) => Ok(offer),
         Err(SourceFault::Trouble) => Err(WalkFault::Trouble),

@@ -1,5 +1,5 @@
 //! The walk.
-ghost use Rattle.std.specs.Prelude.{◌≡◌, ◌≤◌, ◌<◌, ◌+◌, ℕ, Err, IfOk, OnOk, IsTrue};
+ghost use Rattle.std.specs.Prelude.{◌≡◌, ◌≤◌, ◌<◌, ◌+◌, ℕ, Err, IfOk, OnOk, IsTrue, length, map};
 ghost use Rattle.enum_base.specs.Causes.{Rose};
 ghost use Rattle.enum_base.specs.Outside.{WhereTold};
 ghost use Rattle.dns_name.specs.Name.{folded_labels};
@@ -9,7 +9,7 @@ ghost use Rattle.ddds_walk.specs.Clients.{meant};
 ghost use Rattle.ddds_walk.specs.Rules.{client_of};
 ghost use Rattle.ddds_walk.specs.Graph.{graph_of};
 ghost use Rattle.ddds_walk.specs.Report.{Answers};
-ghost use Rattle.ddds_walk.specs.Asking.{IsWhole, AsksNeeded, AsksAll, AsksAtMost, NeedsMore, IsLimit, more};
+ghost use Rattle.ddds_walk.specs.Asking.{IsWhole, AsksNeeded, AsksAll, AsksAtMost, AsksFew, NeedsMore, IsLimit, more};
 ghost use Rattle.ddds_walk.specs.Asking.{FetchesEnough, FetchesMissing};
 ghost use Rattle.ddds_walk.specs.Turns.{HasWalked};
 ghost use Rattle.ddds_walk.specs.declared.fault.WalkFault.TheVariants.{Limit, Trouble};
@@ -26,8 +26,9 @@ use service_field::{DddsApp, Wanted};
 use std::alloc::Global;
 use subst_expr::laws::one_output;
 
-/// Follows the admissible rules from `key` on: every end once, with its least derivation and in rising order, or the
-/// least loop where there is one. Each domain is asked for once, at most `limit` of them (RFC 3402, section 3).
+/// Follows the admissible rules from 1 to 8 keys on: every end once, with its least derivation and in rising order, or
+/// the least loop where there is one. A derivation is less by the place of its key first. Each domain is asked for
+/// once, at most `limit` of them (RFC 3402, section 3).
 ///
 /// # Errors
 /// `Limit` where `limit` domains were asked and a further one is needed, `Trouble` of the source, and `Memory`.
@@ -36,25 +37,28 @@ pub fn walk<P: DddsApp, S: RuleSource>(
     app: &P,
     wanted: Wanted<'_>,
     aus: &Text255,
-    key: &Name,
+    keys: &[Name],
     source: &mut S,
     limit: u32,
 ) -> Result<Report, WalkFault>
     requires limit { 1 ≤ limit }
+    requires some { 1 ≤ length keys.now }
+    requires few { length keys.now ≤ 8 }
     // The answer is the report, or the least loop.
     ensures answer { WhereTold (S.state source.old).zones (λ zones.
         IfOk result (Answers (client_of (P.meaning app.now) (wanted_text wanted.entry) aus.now) zones
-        (folded_labels key.now))) }
+        (map folded_labels keys.now))) }
 
     // Whatever it answers, only needed domains are asked for, each once; and each of them where it has an answer.
     ensures needed { WhereTold (S.state source.old).zones (λ zones.
         AsksNeeded (graph_of (client_of (P.meaning app.now) (wanted_text wanted.entry) aus.now) zones)
-        (folded_labels key.now) (S.state source.old).asks (S.state source.new).asks) }
+        (map folded_labels keys.now) (S.state source.old).asks (S.state source.new).asks) }
     ensures all { WhereTold (S.state source.old).zones (λ zones. OnOk result
         (AsksAll (graph_of (client_of (P.meaning app.now) (wanted_text wanted.entry) aus.now) zones)
-        (folded_labels key.now) (S.state source.old).asks (S.state source.new).asks)) }
+        (map folded_labels keys.now) (S.state source.old).asks (S.state source.new).asks)) }
     ensures bound { WhereTold (S.state source.old).zones (λ zones. OnOk result
-        (AsksAtMost (rules_and_aliases zones + 1) (S.state source.old).asks (S.state source.new).asks)) }
+        (AsksFew (rules_and_aliases zones) (map folded_labels keys.now)
+        (S.state source.old).asks (S.state source.new).asks)) }
     ensures most { AsksAtMost limit (S.state source.old).asks (S.state source.new).asks }
 
     // The limit, and trouble.
@@ -62,10 +66,10 @@ pub fn walk<P: DddsApp, S: RuleSource>(
         (asked ≡ limit) × ((S.state source.new).asks ≡ more limit (S.state source.old).asks) }
     ensures past { WhereTold (S.state source.old).zones (λ zones. (asked : ℕ) → result ≡ Err (Limit asked) →
         NeedsMore (graph_of (client_of (P.meaning app.now) (wanted_text wanted.entry) aus.now) zones)
-        (folded_labels key.now) limit) }
+        (map folded_labels keys.now) limit) }
     ensures stops { WhereTold (S.state source.old).zones (λ zones.
         NeedsMore (graph_of (client_of (P.meaning app.now) (wanted_text wanted.entry) aus.now) zones)
-        (folded_labels key.now) limit →
+        (map folded_labels keys.now) limit →
         ¬ Rose (S.state source.old).troubles (S.state source.new).troubles → IsLimit limit result) }
     ensures trouble { result ≡ Err Trouble →
         Rose (S.state source.old).troubles (S.state source.new).troubles × IsTrue (S.state source.new).failed }
@@ -77,7 +81,7 @@ pub fn walk<P: DddsApp, S: RuleSource>(
         (S.state source.old).fetched (S.state source.new).fetched }
     ensures missing { WhereTold (S.state source.old).zones (λ zones. OnOk result
         (FetchesMissing (graph_of (client_of (P.meaning app.now) (wanted_text wanted.entry) aus.now) zones)
-        (folded_labels key.now) (S.state source.old).room (S.state source.old).kept (S.state source.new).kept
+        (map folded_labels keys.now) (S.state source.old).room (S.state source.old).kept (S.state source.new).kept
         (S.state source.old).fetched (S.state source.new).fetched)) }
 
     // What stays.
@@ -86,23 +90,24 @@ pub fn walk<P: DddsApp, S: RuleSource>(
     ensures lent { (S.state source.new).lent ≡ (S.state source.old).lent }
 {
     needed_bound();
-    walk_inner(alloc, &Client { app, wanted, aus }, key, source, limit)
+    walk_inner(alloc, &Client { app, wanted, aus }, keys, source, limit)
 }
 
 // The same, with one clause on the whole walk.
 fn walk_inner<P: DddsApp, S: RuleSource>(
     alloc: Global,
     client: &Client<'_, P>,
-    key: &Name,
+    keys: &[Name],
     source: &mut S,
     limit: u32,
 ) -> Result<Report, WalkFault>
-    ensures walked { HasWalked (meant P.meaning client.now) (folded_labels key.now) limit (S.state source.old)
+    requires few { length keys.now ≤ 8 }
+    ensures walked { HasWalked (meant P.meaning client.now) (map folded_labels keys.now) limit (S.state source.old)
         (S.state source.new) result }
 {
     one_offer();
     one_output();
-    let mut walker = Walker::start(alloc, key)?;
+    let mut walker = Walker::start(alloc, keys)?;
     loop {
         match walker.turn(alloc, client, source, limit)? {
             Turn::On => {}

@@ -3,7 +3,7 @@ use Rattle.std.proofs.Common.{◌≡◌, ◌⊎◌, ℕ, zero, suc, ◌+◌, ◌
 use Rattle.std.proofs.Common.{get_or, refl, ◌∙◌, ap, subst, inl, inr, arith, unwrap_or}
 use Rattle.std.specs.List.{AllByRecursion}
 use Rattle.dns_name.specs.Name.{IsByte, wire_of}
-use Rattle.dns_name.specs.Wire.{StandsAt, RootAt, LabelAt, PointerAt, after_pointer, NameAt, Reaches, IsCut, IsBadType, NameBreaks}
+use Rattle.dns_name.specs.Wire.{StandsAt, RootAt, LabelAt, PointerAt, after_pointer, NameAt, Reaches, FieldIsCut, IsBadType, NameBreaks}
 use Rattle.dns_name.specs.declared.wire_fault.WireFault.{WireFault}
 use Rattle.dns_name.specs.declared.wire_fault.WireFault.TheVariants.{Short, BadLabelType, ForwardPointer, NameTooLong}
 use Rattle.dns_name.proofs.WireLemmas.{from_place, label-there}
@@ -11,7 +11,7 @@ use Rattle.dns_name.proofs.ReadLemmas.{reaches-start, reaches-label, reaches-poi
 
 -- what stands at a place
 data Kind (message : List ℕ) (at : ℕ) : Type 0 where
-  cut : IsCut message at → Kind message at
+  cut : FieldIsCut message at → Kind message at
   root : RootAt message at → Kind message at
   label : (l : List ℕ) → LabelAt message at l → Kind message at
   bad : IsBadType message at → Kind message at

@@ -6,7 +6,7 @@ use Rattle.std.proofs.lemmas.List.{length-take}
 use Rattle.std.proofs.lemmas.Bool.Decides.{nat_tests}
 use Rattle.dns_name.specs.Name.{wire_of}
 use Rattle.dns_name.specs.Wire.{StandsAt, RootAt, LabelAt, PointerAt, Field, Leads, labels_in, after_pointer, NameAt}
-use Rattle.dns_name.specs.Wire.{Reaches, IsCut, IsBadType, NameBreaks, by_label, by_pointer}
+use Rattle.dns_name.specs.Wire.{Reaches, FieldIsCut, IsBadType, NameBreaks, by_label, by_pointer}
 use Rattle.dns_name.specs.declared.wire_fault.WireFault.{WireFault}
 use Rattle.dns_name.specs.declared.wire_fault.WireFault.TheVariants.{Short, BadLabelType, ForwardPointer, NameTooLong}
 use Rattle.dns_name.proofs.WireLemmas.{from_place, one_label, one_pointer, label_no_pointer, one_first, IsStop, one_way}
@@ -99,7 +99,7 @@ root_ends message labels start here h =
       told = verdict-root here (get_or message here 0) (length message) (omega arith) is;
     }
 
-pub cut_ends : (message : List ℕ) (labels : List (List ℕ)) (start here : ℕ) → IsCut message here → Ends message labels start here (Some (Short here))
+pub cut_ends : (message : List ℕ) (labels : List (List ℕ)) (start here : ℕ) → FieldIsCut message here → Ends message labels start here (Some (Short here))
 cut_ends message labels start here (inl none) = record {
   stop = stop_by message labels start here (λ n k some most. let e = k.inside in absurd (omega arith)) (λ n k some. let e = k.inside in absurd (omega arith));
   told = verdict-nothing here (get_or message here 0) (length message) none;
@@ -223,8 +223,8 @@ same_reading message at why why' one two =
 
 -- two cuts that are reached are reached in one run
 pub same_start : (message : List ℕ) (at place place' start start' : ℕ) (one two : List (List ℕ))
-    → Reaches message at one start place → IsCut message place → Reaches message at two start' place'
-    → IsCut message place' → start ≡ start'
+    → Reaches message at one start place → FieldIsCut message place → Reaches message at two start' place'
+    → FieldIsCut message place' → start ≡ start'
 same_start message at place place' start start' one two far cut far' cut' =
     let first : Reading message at (Some (Short place)) =
     record { labels = one; start = start; here = place; far = far; ends = cut_ends message one start place cut } in

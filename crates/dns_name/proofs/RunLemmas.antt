@@ -4,7 +4,7 @@ use Rattle.std.proofs.Common.{sym, ◌∙◌, ap, subst, arith, length-append}
 use Rattle.std.specs.Prelude.{MatchOption}
 use Rattle.std.specs.List.{flat_map}
 use Rattle.dns_name.specs.Name.{label_wire, wire_of}
-use Rattle.dns_name.specs.Wire.{RootAt, PointerAt, Reaches, IsCut, IsBadType, RunIsCut}
+use Rattle.dns_name.specs.Wire.{RootAt, PointerAt, Reaches, FieldIsCut, IsBadType, RunIsCut}
 use Rattle.dns_name.specs.Fields.{label_bytes, IsField, cut_place}
 use Rattle.dns_name.specs.declared.field.Field.TheVariants.{Label}
 use Rattle.dns_name.specs.declared.wire_fault.WireFault.{WireFault}
@@ -73,7 +73,7 @@ pub running-fault : (bytes : List ℕ) (at here : ℕ) (fault : WireFault) (plac
     → MatchOption place ((p : ℕ) → ¬ RunIsCut bytes at p) (RunIsCut bytes at)
 running-fault bytes at here (Short p) place r f is =
     let P : Option ℕ → Type 0 = λ o. MatchOption o ((q : ℕ) → ¬ RunIsCut bytes at q) (RunIsCut bytes at) in
-    subst P (sym is) (r.labels, subst (λ h. Reaches bytes at r.labels at h) (sym f.0) r.far, subst (λ h. IsCut bytes h) (sym f.0) f.1)
+    subst P (sym is) (r.labels, subst (λ h. Reaches bytes at r.labels at h) (sym f.0) r.far, subst (λ h. FieldIsCut bytes h) (sym f.0) f.1)
 running-fault bytes at here (BadLabelType p) place r f is =
     let P : Option ℕ → Type 0 = λ o. MatchOption o ((q : ℕ) → ¬ RunIsCut bytes at q) (RunIsCut bytes at) in
     subst P (sym is) (running-bad bytes at here r f.1)

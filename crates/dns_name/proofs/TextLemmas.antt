@@ -139,10 +139,12 @@ pub from_start : (text other : List ℕ) (r : Bool) → r ≡ bytes_eq text othe
 from_start text other r is lone fails = reading_of-other text (ap (bytes_eq text) (sym lone) ∙ sym is ∙ fails)
 
 -- the piece that the code met
-pub piece_met : (text : List ℕ) (at : ℕ) (result piece : Piece)
-    → result ≡ first_piece (take (length text - at) (drop at text)) → result ≡ piece
+pub piece_met : (text : List ℕ) (at : ℕ) (result piece : Piece) → at < length text
+    → result ≡ first_piece (get_or text at 0 ∷ take (length text - (at + 1)) (drop (at + 1) text)) → result ≡ piece
     → piece ≡ first_piece (drop at text)
-piece_met text at result piece value is = sym is ∙ value ∙ ap first_piece (take_rest text at)
+piece_met text at result piece below value is =
+    sym is ∙ value ∙ ap (λ rest. first_piece (get_or text at 0 ∷ rest)) (take_rest text (at + 1))
+    ∙ ap first_piece (sym (drop_more text at 0 below))
 
 -- a test that failed
 pub unless_true : {P : Type 0} (r : Bool) → (P → r ≡ true) → r ≡ false → P → ⊥

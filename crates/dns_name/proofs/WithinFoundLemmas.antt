@@ -3,7 +3,7 @@ use Rattle.std.proofs.Common.{◌≡◌, ◌⊎◌, ℕ, ◌≤◌, List, length
 use Rattle.std.proofs.lemmas.Bool.Decides.{nat_tests}
 use Rattle.std.specs.List.{AllByRecursion}
 use Rattle.dns_name.specs.Name.{IsByte}
-use Rattle.dns_name.specs.Wire.{NameBreaks, Reaches, IsCut, RunIsCut, NameWithin, WithinBreaks}
+use Rattle.dns_name.specs.Wire.{NameBreaks, Reaches, FieldIsCut, RunIsCut, NameWithin, WithinBreaks}
 use Rattle.dns_name.specs.declared.wire_fault.WireFault.TheVariants.{Short, BadLabelType, ForwardPointer, NameTooLong}
 use Rattle.dns_name.specs.declared.wire_fault.WithinFault.{WithinFault}
 use Rattle.dns_name.specs.declared.wire_fault.WithinFault.TheVariants.{Shape, Wire}
@@ -23,7 +23,7 @@ same_or_not : (n m : ℕ) → (n ≡ m) ⊎ (n ≡ m → ⊥)
 same_or_not n m = grind (arith, nat_tests)
 
 by_start : (bytes : List ℕ) (at place start : ℕ) (labels : List (List ℕ)) → Reaches bytes at labels start place
-    → IsCut bytes place → (start ≡ at) ⊎ (start ≡ at → ⊥) → CutOrNot bytes at
+    → FieldIsCut bytes place → (start ≡ at) ⊎ (start ≡ at → ⊥) → CutOrNot bytes at
 by_start bytes at place start labels far cut (inl e) = inl (place, (labels, subst (λ s. Reaches bytes at labels s place) e far, cut))
 by_start bytes at place start labels far cut (inr other) = inr no
   where

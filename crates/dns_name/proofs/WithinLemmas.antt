@@ -7,7 +7,7 @@ use Rattle.std.specs.Prelude.{IfOk}
 use Rattle.std.specs.List.{flat_map}
 use Rattle.dns_name.specs.Name.{label_wire, wire_of}
 use Rattle.dns_name.specs.Wire.{StandsAt, RootAt, LabelAt, PointerAt, Field, Leads, labels_in, after_pointer, NameAt}
-use Rattle.dns_name.specs.Wire.{Reaches, IsCut, NameBreaks, RunIsCut, NameWithin, WithinBreaks, by_label, by_pointer}
+use Rattle.dns_name.specs.Wire.{Reaches, FieldIsCut, NameBreaks, RunIsCut, NameWithin, WithinBreaks, by_label, by_pointer}
 use Rattle.dns_name.specs.Fields.{IsAnswer, IsWithin}
 use Rattle.dns_name.specs.declared.wire_fault.WireFault.{WireFault}
 use Rattle.dns_name.specs.declared.wire_fault.WireFault.TheVariants.{Short, ForwardPointer}
@@ -225,7 +225,7 @@ front_size message to fits = omega (arith, length-take to message)
 field_cut : (message : List ℕ) (to a first : ℕ) (bytes : List ℕ) → to ≤ length message
     → StandsAt message a (first ∷ bytes) → to < a + suc (length bytes)
     → (length bytes ≡ first) × (0 < first) × (first ≤ 63) ⊎ (length bytes ≡ 1) × (192 ≤ first)
-    → IsCut (take to message) a
+    → FieldIsCut (take to message) a
 field_cut message to a first bytes fits h short kind = by_place (by_size to a)
   where
     one : a < to → StandsAt (take to message) a (first ∷ [])
@@ -234,11 +234,11 @@ field_cut message to a first bytes fits h short kind = by_place (by_size to a)
         let is = (stands message a first bytes h).is in
         stands_front message to a (first ∷ []) (omega arith) (ap (take 1) (from_place message a (omega arith)) ∙ ap (λ b. b ∷ []) is)
 
-    by_kind : a < to → (length bytes ≡ first) × (0 < first) × (first ≤ 63) ⊎ (length bytes ≡ 1) × (192 ≤ first) → IsCut (take to message) a
+    by_kind : a < to → (length bytes ≡ first) × (0 < first) × (first ≤ 63) ⊎ (length bytes ≡ 1) × (192 ≤ first) → FieldIsCut (take to message) a
     by_kind inside (inl (size, some, most)) = inr (inl (first, one inside, some, most, let e = front_size message to fits in omega arith))
     by_kind inside (inr (size, some)) = inr (inr (first, one inside, some, let e = front_size message to fits in omega arith))
 
-    by_place : (to ≤ a) ⊎ (a < to) → IsCut (take to message) a
+    by_place : (to ≤ a) ⊎ (a < to) → FieldIsCut (take to message) a
     by_place (inl none) = inl (let e = front_size message to fits in omega arith)
     by_place (inr inside) = by_kind inside kind
 

@@ -1,6 +1,6 @@
 -- What the code reads at a place of a name in a message. It serves the proofs alone.
 use Rattle.std.specs.Prelude.{◌≡◌, ℕ, ◌+◌, List, length, take, drop, Option, Some, None, Result, Ok, Err}
-use Rattle.dns_name.specs.Wire.{RootAt, LabelAt, PointerAt, IsCut, IsBadType, NameAt, NameBreaks, NameWithin, WithinBreaks}
+use Rattle.dns_name.specs.Wire.{RootAt, LabelAt, PointerAt, FieldIsCut, IsBadType, NameAt, NameBreaks, NameWithin, WithinBreaks}
 use Rattle.dns_name.specs.declared.field.Field.{Field}
 use Rattle.dns_name.specs.declared.field.Field.TheVariants.{Root, Label, Pointer}
 use Rattle.dns_name.specs.declared.wire_fault.WireFault.{WireFault}
@@ -17,7 +17,7 @@ IsField message at (Ok Root) = RootAt message at
 IsField message at (Ok (Label size)) =
     LabelAt message at (label_bytes message at size) × (length (label_bytes message at size) ≡ size)
 IsField message at (Ok (Pointer offset)) = PointerAt message at offset
-IsField message at (Err (Short place)) = (place ≡ at) × IsCut message at
+IsField message at (Err (Short place)) = (place ≡ at) × FieldIsCut message at
 IsField message at (Err (BadLabelType place)) = (place ≡ at) × IsBadType message at
 IsField message at (Err (ForwardPointer place)) = ⊥
 IsField message at (Err (NameTooLong place)) = ⊥

@@ -12,8 +12,8 @@ abbrev pub dot : ℕ
 dot = 46
 
 -- A text stands for one byte where it is this byte, but no dot and no backslash ..
-abbrev pub IsPlain : List ℕ → ℕ → Type 0
-IsPlain text byte = (text ≡ byte ∷ []) × (byte ≢ dot) × (byte ≢ backslash)
+abbrev pub IsUnescaped : List ℕ → ℕ → Type 0
+IsUnescaped text byte = (text ≡ byte ∷ []) × (byte ≢ dot) × (byte ≢ backslash)
 
 -- .. or a backslash and this byte, which is no digit ..
 abbrev pub IsQuoted : List ℕ → ℕ → Type 0
@@ -27,7 +27,7 @@ IsDecimal text byte =
 
 -- a text stands for one byte of a label
 abbrev pub SpellsByte : List ℕ → ℕ → Type 0
-SpellsByte text byte = IsPlain text byte ⊎ (IsQuoted text byte ⊎ IsDecimal text byte)
+SpellsByte text byte = IsUnescaped text byte ⊎ (IsQuoted text byte ⊎ IsDecimal text byte)
 
 -- a text is cut into texts that stand for these bytes in turn
 abbrev pub SpellsBytes : List ℕ → List ℕ → Type 0

@@ -69,8 +69,8 @@ pub record Reaches (message : List ℕ) (at : ℕ) (labels : List (List ℕ)) (s
 
 -- the label or pointer that begins at a place does not lie wholly in the message: there is no byte, a length byte with too few
 -- after it, or the first byte of a pointer alone
-abbrev pub IsCut : List ℕ → ℕ → Type 0
-IsCut message at =
+abbrev pub FieldIsCut : List ℕ → ℕ → Type 0
+FieldIsCut message at =
     (length message ≤ at)
     ⊎ (((size : ℕ) × StandsAt message at (size ∷ []) × (0 < size) × (size ≤ 63) × (length message < at + (size + 1)))
     ⊎ ((high : ℕ) × StandsAt message at (high ∷ []) × (192 ≤ high) × (length message < at + 2)))
@@ -82,7 +82,7 @@ IsBadType message at = (byte : ℕ) × StandsAt message at (byte ∷ []) × (64 
 -- a name that is read as far as the place of its fault, and what breaks it there
 abbrev pub NameBreaks : List ℕ → ℕ → WireFault → Type 0
 NameBreaks message at (Short place) =
-    (labels : List (List ℕ)) × (start : ℕ) × Reaches message at labels start place × IsCut message place
+    (labels : List (List ℕ)) × (start : ℕ) × Reaches message at labels start place × FieldIsCut message place
 NameBreaks message at (BadLabelType place) =
     (labels : List (List ℕ)) × (start : ℕ) × Reaches message at labels start place × IsBadType message place
 NameBreaks message at (ForwardPointer place) =
@@ -94,7 +94,7 @@ NameBreaks message at (NameTooLong place) =
 
 -- the first label run of a name, read as far as a place, has a label or pointer there that does not lie wholly in the bytes
 abbrev pub RunIsCut : List ℕ → ℕ → ℕ → Type 0
-RunIsCut bytes at place = (labels : List (List ℕ)) × Reaches bytes at labels at place × IsCut bytes place
+RunIsCut bytes at place = (labels : List (List ℕ)) × Reaches bytes at labels at place × FieldIsCut bytes place
 
 -- a name whose first label run lies before `to`
 abbrev pub NameWithin : List ℕ → ℕ → ℕ → List (List ℕ) → ℕ → Type 0

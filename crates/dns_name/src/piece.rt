@@ -1,5 +1,5 @@
 //! The pieces that a name text is made of.
-ghost use Rattle.std.specs.Prelude.{◌≡◌, ◌+◌, ◌<◌, length};
+ghost use Rattle.std.specs.Prelude.{◌≡◌, ◌+◌, ◌<◌, ◌∷◌, length};
 
 use enum_base::escaped_byte;
 
@@ -15,17 +15,15 @@ pub(crate) enum Piece {
 impl Piece {
     ghost use Rattle.dns_name.specs.Reading.{first_piece, escape_piece, more_of};
 
-    /// The piece at the front of a text.
-    pub fn first(text: &[u8]) -> Piece
-        requires { 0 < length text.now }
-        ensures value { result ≡ first_piece text.now }
-        ensures within { more_of result < length text.now }
+    /// The piece at the front of a text, by its first byte and those after it.
+    pub fn first(byte: u8, rest: &[u8]) -> Piece
+        ensures value { result ≡ first_piece (byte ∷ rest.now) }
+        ensures within { more_of result < length rest.now + 1 }
     {
-        match text {
-            [b'.', ..] => Piece::Dot,
-            [b'\\', rest @ ..] => Piece::escape(rest),
-            [byte, ..] => Piece::Byte(*byte, 0),
-            [] => Piece::Broken,
+        match byte {
+            b'.' => Piece::Dot,
+            b'\\' => Piece::escape(rest),
+            _ => Piece::Byte(byte, 0),
         }
     }
 

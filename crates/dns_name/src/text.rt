@@ -120,7 +120,7 @@ fn read(text: &[u8], name: &mut Name) -> Result<Own, NameFault>
     let mut start = 0;
     let mut at = 0;
     while at < text.len() {
-        match Piece::first(&text[at..]) {
+        match Piece::first(text[at], &text[at + 1..]) {
             Piece::Broken => return Err(NameFault::BadEscape { at }),
             Piece::Dot if label.is_empty() => return Err(NameFault::EmptyLabel { at: start }),
             Piece::Dot => {

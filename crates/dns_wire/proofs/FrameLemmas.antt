@@ -9,7 +9,7 @@ use Rattle.byteorder.specs.Endian.{big_number}
 use Rattle.dns_name.specs.Name.{IsByte}
 use Rattle.dns_name.proofs.NameLemmas.{AllByRecursion-append}
 use Rattle.rdata_field.proofs.PlaceLemmas.{by_size}
-use Rattle.dns_wire.specs.Framing.{FitsFrame, framed, framed_all, Stream, stream_bytes, BeginsWith, IsNoWhole, Gives, HasCut, OneCut, SomeCut}
+use Rattle.dns_wire.specs.Framing.{FitsFrame, framed, framed_all, Stream, stream_bytes, BeginsWith, IsNoWhole, GivesMessage, HasCut, OneCut, SomeCut}
 use Rattle.dns_wire.specs.Frames.{messages_within, messages_of, cut_at, AreWhole, IsFrontWhole}
 
 -- two bytes are those of their number
@@ -194,7 +194,7 @@ given-length bytes place h =
 -- the message at the front of the rest was given
 pub record HasGiven (bytes : List ℕ) (place next : ℕ) : Type 0 where
   pub whole : IsFrontWhole bytes next
-  pub message : Gives (cut_at bytes place) (cut_at bytes next) (slice_range (stream_bytes (cut_at bytes next)) (place + 2) next)
+  pub message : GivesMessage (cut_at bytes place) (cut_at bytes next) (slice_range (stream_bytes (cut_at bytes next)) (place + 2) next)
   pub place_is : place + 2 ≡ length (framed_all (messages_of (take place bytes))) + 2
   pub within : next ≤ length (stream_bytes (cut_at bytes next))
 
@@ -244,7 +244,7 @@ HasGiven-front bytes place size h first room =
     ap (λ x. slice_range x (place + 2) next) all
     ∙ ap (λ n. take n (drop (place + 2) bytes)) (omega arith)
     ∙ ap (take size) (sym (drop-drop 2 place bytes)) in
-    let P : List ℕ → Type 0 = Gives (cut_at bytes place) (cut_at bytes next) in
+    let P : List ℕ → Type 0 = GivesMessage (cut_at bytes place) (cut_at bytes next) in
     let Q : List ℕ → Type 0 = BeginsWith (drop place bytes) message in
     let inside = s.whole.inside in
     record {

@@ -10,7 +10,7 @@ use Rattle.dns_wire.specs.Contents.{ContentIn}
 use Rattle.dns_wire.specs.Forms.{form_of}
 use Rattle.dns_wire.specs.DecodeFaults.{of_name, of_rdata}
 use Rattle.dns_wire.specs.Message.{U16At, U32At, NameRead, QuestionAt, LengthAt, RecordAt, ItemsAt, HeaderAt, MessageIs}
-use Rattle.dns_wire.specs.Outcome.{Told}
+use Rattle.dns_wire.specs.Outcome.{ToldAs}
 use Rattle.dns_wire.specs.declared.decode_fault.DecodeFault.{DecodeFault}
 use Rattle.dns_wire.specs.declared.decode_fault.DecodeFault.TheVariants.{Memory}
 
@@ -60,10 +60,10 @@ free-name message at = record { lacks = lacks }
     lacks (inl (labels, next, name, is)) = absurd cc
     lacks (inr (fault, breaks, is)) = let same : Memory ≡ of_name fault = cc in no_name fault same
 
-free-told : {A : Type 0} (One : Result A InFault → Type 0) → IsFree (Told of_rdata One)
+free-told : {A : Type 0} (One : Result A InFault → Type 0) → IsFree (ToldAs of_rdata One)
 free-told {A} One = record { lacks = lacks }
   where
-    lacks : ¬ Told of_rdata One (Err Memory)
+    lacks : ¬ ToldAs of_rdata One (Err Memory)
     lacks (inl (value, h, is)) = absurd cc
     lacks (inr (fault, h, is)) = let same : Memory ≡ of_rdata fault = cc in no_rdata fault same
 

@@ -20,8 +20,8 @@ use Rattle.dns_wire.proofs.StepLemmas.{sure}
 abbrev pub Questions : List ℕ → Header × Counts → Result (List Question × ℕ) DecodeFault → Type 0
 Questions bytes header = ItemsAt (QuestionAt bytes) header.1.questions 12
 
-abbrev pub Answers : List ℕ → Header × Counts → ℕ → Result (List Record × ℕ) DecodeFault → Type 0
-Answers bytes header at = ItemsAt (RecordAt bytes) header.1.answers at
+abbrev pub AnswersAt : List ℕ → Header × Counts → ℕ → Result (List Record × ℕ) DecodeFault → Type 0
+AnswersAt bytes header at = ItemsAt (RecordAt bytes) header.1.answers at
 
 abbrev pub Authority : List ℕ → Header × Counts → ℕ → Result (List Record × ℕ) DecodeFault → Type 0
 Authority bytes header at = ItemsAt (RecordAt bytes) header.1.authority at
@@ -44,7 +44,7 @@ questions_stop bytes header fault (Err told) h (inr none) is = let first : fault
 
 pub answers_stop : (bytes : List ℕ) (header : Header × Counts) (questions : List Question × ℕ) (fault : DecodeFault) (result : Result Message DecodeFault)
     → HeaderAt bytes (Ok header) → OrMemory (Questions bytes header) (Ok questions)
-    → OrMemory (Answers bytes header questions.1) (Err fault) → IsErrAnd result (λ told. told ≡ fault)
+    → OrMemory (AnswersAt bytes header questions.1) (Err fault) → IsErrAnd result (λ told. told ≡ fault)
     → OrMemory (MessageIs bytes) result
 answers_stop bytes header questions fault (Ok value) h k l is = absurd is
 answers_stop bytes header questions fault (Err told) h k (inl l) is =
@@ -54,19 +54,19 @@ answers_stop bytes header questions fault (Err told) h k (inr none) is = let fir
 pub authority_stops : (bytes : List ℕ) (header : Header × Counts) (questions : List Question × ℕ)
     (answers : List Record × ℕ) (fault : DecodeFault) (result : Result Message DecodeFault)
     → HeaderAt bytes (Ok header) → OrMemory (Questions bytes header) (Ok questions)
-    → OrMemory (Answers bytes header questions.1) (Ok answers) → OrMemory (Authority bytes header answers.1) (Err fault)
+    → OrMemory (AnswersAt bytes header questions.1) (Ok answers) → OrMemory (Authority bytes header answers.1) (Err fault)
     → IsErrAnd result (λ told. told ≡ fault) → OrMemory (MessageIs bytes) result
 authority_stops bytes header questions answers fault (Ok value) h k l m is = absurd is
 authority_stops bytes header questions answers fault (Err told) h k l (inl m) is =
     inl (goes header h (goes questions (sure (Questions bytes header) questions k)
-    (goes answers (sure (Answers bytes header questions.1) answers l) (stops fault m (ap Err is)))))
+    (goes answers (sure (AnswersAt bytes header questions.1) answers l) (stops fault m (ap Err is)))))
 authority_stops bytes header questions answers fault (Err told) h k l (inr none) is = let first : fault ≡ Memory = cc in inr (ap Err (is ∙ first))
 
 -- what is read of a message as far as its last section
 pub record Sections (bytes : List ℕ) (header : Header × Counts) (questions : List Question × ℕ) (answers authority : List Record × ℕ) : Type 0 where
   pub header_read : HeaderAt bytes (Ok header)
   pub questions_read : OrMemory (Questions bytes header) (Ok questions)
-  pub answers_read : OrMemory (Answers bytes header questions.1) (Ok answers)
+  pub answers_read : OrMemory (AnswersAt bytes header questions.1) (Ok answers)
   pub authority_read : OrMemory (Authority bytes header answers.1) (Ok authority)
 
 pub additional_stops : (bytes : List ℕ) (header : Header × Counts) (questions : List Question × ℕ)
@@ -77,7 +77,7 @@ additional_stops bytes header questions answers authority fault (Ok value) s m i
 additional_stops bytes header questions answers authority fault (Err told) s (inl m) is =
     inl (goes header s.header_read
     (goes questions (sure (Questions bytes header) questions s.questions_read)
-    (goes answers (sure (Answers bytes header questions.1) answers s.answers_read)
+    (goes answers (sure (AnswersAt bytes header questions.1) answers s.answers_read)
     (goes authority (sure (Authority bytes header answers.1) authority s.authority_read)
     (stops fault m (ap Err is))))))
 additional_stops bytes header questions answers authority fault (Err told) s (inr none) is = let first : fault ≡ Memory = cc in inr (ap Err (is ∙ first))
@@ -88,7 +88,7 @@ pub trails : (bytes : List ℕ) (header : Header × Counts) (questions : List Qu
 trails bytes header questions answers authority additional s m more =
     inl (goes header s.header_read
     (goes questions (sure (Questions bytes header) questions s.questions_read)
-    (goes answers (sure (Answers bytes header questions.1) answers s.answers_read)
+    (goes answers (sure (AnswersAt bytes header questions.1) answers s.answers_read)
     (goes authority (sure (Authority bytes header answers.1) authority s.authority_read)
     (goes additional (sure (Additional bytes header authority.1) additional m) (inr (more, refl)))))))
 
@@ -109,7 +109,7 @@ pub spells : (bytes : List ℕ) (header : Header × Counts) (questions : List Qu
 spells bytes header questions answers authority additional fits s m low high =
     inl (goes header s.header_read
     (goes questions (sure (Questions bytes header) questions s.questions_read)
-    (goes answers (sure (Answers bytes header questions.1) answers s.answers_read)
+    (goes answers (sure (AnswersAt bytes header questions.1) answers s.answers_read)
     (goes authority (sure (Authority bytes header answers.1) authority s.authority_read)
     (goes additional (sure (Additional bytes header authority.1) additional m) (inl (omega arith, fits, refl)))))))
 
@@ -163,7 +163,7 @@ counted items n is few = le-leb (length items) 65535 (omega arith)
 
 -- the lists of a message that is read can be counted
 pub are_few : (bytes : List ℕ) (header : Header × Counts) (questions : List Question × ℕ) (answers authority additional : List Record × ℕ)
-    → HeaderAt bytes (Ok header) → Questions bytes header (Ok questions) → Answers bytes header questions.1 (Ok answers)
+    → HeaderAt bytes (Ok header) → Questions bytes header (Ok questions) → AnswersAt bytes header questions.1 (Ok answers)
     → Authority bytes header answers.1 (Ok authority) → Additional bytes header authority.1 (Ok additional)
     → IsTrue (are_counted questions.0 answers.0 authority.0 additional.0)
 are_few bytes header questions answers authority additional h k l m n =
@@ -180,6 +180,6 @@ pub few_read : (bytes : List ℕ) (header : Header × Counts) (questions : List 
 few_read bytes header questions answers authority additional s m =
     are_few bytes header questions answers authority additional s.header_read
     (sure (Questions bytes header) questions s.questions_read)
-    (sure (Answers bytes header questions.1) answers s.answers_read)
+    (sure (AnswersAt bytes header questions.1) answers s.answers_read)
     (sure (Authority bytes header answers.1) authority s.authority_read)
     (sure (Additional bytes header authority.1) additional m)

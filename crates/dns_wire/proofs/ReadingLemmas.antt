@@ -15,7 +15,7 @@ use Rattle.dns_wire.specs.Forms.{form_of}
 use Rattle.dns_wire.specs.Contents.{ContentIn}
 use Rattle.dns_wire.specs.DecodeFaults.{of_name, of_rdata}
 use Rattle.dns_wire.specs.Message.{U16At, NameRead, QuestionAt, LengthAt, RecordAt, ItemsAt, HeaderNumbers, HeaderAt, MessageIs}
-use Rattle.dns_wire.specs.Outcome.{Told}
+use Rattle.dns_wire.specs.Outcome.{ToldAs}
 use Rattle.dns_wire.specs.declared.content.Content.{Content}
 use Rattle.dns_wire.specs.declared.form.Form.{Form}
 use Rattle.dns_wire.specs.declared.question.Question.{Question}
@@ -31,19 +31,19 @@ use Rattle.dns_wire.proofs.RecordLemmas.{form_fits, belongs_of, length_span}
 use Rattle.dns_wire.proofs.StepLemmas.{then_value}
 
 -- a told reading
-IsSingle-told : {A F : Type 0} (turn : F → DecodeFault) (One : Result A F → Type 0) → IsSingle One → IsSingle (Told turn One)
+IsSingle-told : {A F : Type 0} (turn : F → DecodeFault) (One : Result A F → Type 0) → IsSingle One → IsSingle (ToldAs turn One)
 IsSingle-told {A} {F} turn One one = record { same = same }
   where
-    same : (r s : Result A DecodeFault) → Told turn One r → Told turn One s → r ≡ s
+    same : (r s : Result A DecodeFault) → ToldAs turn One r → ToldAs turn One s → r ≡ s
     same r s (inl (v, h, is)) (inl (w, k, is')) = let e : v ≡ w = cc (one.same (Ok v) (Ok w) h k) in is ∙ ap Ok e ∙ sym is'
     same r s (inl (v, h, is)) (inr (f, k, is')) = absurd (cc (one.same (Ok v) (Err f) h k))
     same r s (inr (f, h, is)) (inl (v, k, is')) = absurd (cc (one.same (Err f) (Ok v) h k))
     same r s (inr (f, h, is)) (inr (g, k, is')) = let e : f ≡ g = cc (one.same (Err f) (Err g) h k) in is ∙ ap (λ x. Err (turn x)) e ∙ sym is'
 
-IsTotal-told : {A F : Type 0} (turn : F → DecodeFault) (One : Result A F → Type 0) → IsTotal One → IsTotal (Told turn One)
+IsTotal-told : {A F : Type 0} (turn : F → DecodeFault) (One : Result A F → Type 0) → IsTotal One → IsTotal (ToldAs turn One)
 IsTotal-told {A} {F} turn One one = from one.result one.comes
   where
-    from : (r : Result A F) → One r → IsTotal (Told turn One)
+    from : (r : Result A F) → One r → IsTotal (ToldAs turn One)
     from (Ok value) h = record { result = Ok value; comes = inl (value, h, refl) }
     from (Err fault) h = record { result = Err (turn fault); comes = inr (fault, h, refl) }
 
@@ -153,7 +153,7 @@ IsSingle-record message at =
     IsSingle-made owner.0 kind.0 class.0 ttl.0 what rdata.0))))))
 
 told_content : (of : Form) (message : List ℕ) (from to : ℕ) (what : Content)
-    → Told of_rdata (ContentIn of message from to) (Ok what) → ContentIn of message from to (Ok what)
+    → ToldAs of_rdata (ContentIn of message from to) (Ok what) → ContentIn of message from to (Ok what)
 told_content of message from to what (inl (own, h, is)) = let same : own ≡ what = cc in subst (λ x. ContentIn of message from to (Ok x)) same h
 told_content of message from to what (inr (fault, h, is)) = absurd cc
 

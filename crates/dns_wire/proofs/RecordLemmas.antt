@@ -13,7 +13,7 @@ use Rattle.dns_wire.specs.Forms.{internet_form, form_of}
 use Rattle.dns_wire.specs.Contents.{SoaIn, LastIn, TextsIn, ContentIn, bytes_between}
 use Rattle.dns_wire.specs.DecodeFaults.{of_rdata}
 use Rattle.dns_wire.specs.Message.{U16At, U32At, NameRead, LengthAt, RecordAt}
-use Rattle.dns_wire.specs.Outcome.{Told, OrMemory}
+use Rattle.dns_wire.specs.Outcome.{ToldAs, OrMemory}
 use Rattle.dns_wire.specs.declared.content.Content.{Content}
 use Rattle.dns_wire.specs.declared.content.Content.TheVariants as content
 use Rattle.dns_wire.specs.declared.form.Form.{Form}
@@ -170,7 +170,7 @@ length_span message at rdata (goes size (inl (value, small, there, read)) (inl (
 
 pub content_belongs : (message : List ℕ) (kind class at : ℕ) (rdata : ℕ × ℕ) (what : Content)
     → LengthAt message at (Ok rdata)
-    → OrMemory (Told of_rdata (ContentIn (form_of kind class) message rdata.1 rdata.0)) (Ok what)
+    → OrMemory (ToldAs of_rdata (ContentIn (form_of kind class) message rdata.1 rdata.0)) (Ok what)
     → IsTrue (belongs kind class what)
 content_belongs message kind class at rdata what h k =
     belongs_of kind class (form_of kind class) message rdata.1 rdata.0 what (form_fits kind class)
@@ -182,7 +182,7 @@ pub record_goes : (message : List ℕ) (at : ℕ) (owner : List (List ℕ) × �
     (what : Content) (fits : IsTrue (belongs kind.0 class.0 what))
     → NameRead message at (Ok owner) → U16At message owner.1 (Ok kind) → U16At message kind.1 (Ok class)
     → U32At message class.1 (Ok ttl) → LengthAt message ttl.1 (Ok rdata)
-    → OrMemory (Told of_rdata (ContentIn (form_of kind.0 class.0) message rdata.1 rdata.0)) (Ok what)
+    → OrMemory (ToldAs of_rdata (ContentIn (form_of kind.0 class.0) message rdata.1 rdata.0)) (Ok what)
     → OrMemory (RecordAt message at) (Ok (record { owner = owner.0; kind = kind.0; class = class.0; ttl = ttl.0; content = what; belongs = fits }, rdata.0))
 record_goes message at owner kind class ttl rdata what fits h1 h2 h3 h4 h5 (inl h6) =
     inl (goes owner h1 (goes kind h2 (goes class h3 (goes ttl h4 (goes rdata h5 (goes what h6 (fits, refl)))))))
@@ -192,7 +192,7 @@ pub record_stops : (message : List ℕ) (at : ℕ) (owner : List (List ℕ) × �
     (fault : DecodeFault) (result : Result (Record × ℕ) DecodeFault)
     → NameRead message at (Ok owner) → U16At message owner.1 (Ok kind) → U16At message kind.1 (Ok class)
     → U32At message class.1 (Ok ttl) → LengthAt message ttl.1 (Ok rdata)
-    → OrMemory (Told of_rdata (ContentIn (form_of kind.0 class.0) message rdata.1 rdata.0)) (Err fault)
+    → OrMemory (ToldAs of_rdata (ContentIn (form_of kind.0 class.0) message rdata.1 rdata.0)) (Err fault)
     → IsErrAnd result (λ told. told ≡ fault) → OrMemory (RecordAt message at) result
 record_stops message at owner kind class ttl rdata fault (Ok value) h1 h2 h3 h4 h5 h6 is = absurd is
 record_stops message at owner kind class ttl rdata fault (Err told) h1 h2 h3 h4 h5 (inl h6) is =

@@ -3,7 +3,7 @@ use Rattle.std.proofs.Common.{◌≡◌, Result, Ok, Err, refl, ap, subst, ◌�
 use Rattle.std.specs.Result.{IsErrAnd}
 use Rattle.enum_base.specs.Stages.{Then}
 use Rattle.enum_base.specs.Stages.Then.{goes, stops}
-use Rattle.dns_wire.specs.Outcome.{Told, OrMemory}
+use Rattle.dns_wire.specs.Outcome.{ToldAs, OrMemory}
 use Rattle.dns_wire.specs.declared.decode_fault.DecodeFault.{DecodeFault}
 use Rattle.dns_wire.specs.declared.decode_fault.DecodeFault.TheVariants.{Memory}
 
@@ -25,16 +25,16 @@ no_memory One (Ok value) is = absurd is
 no_memory One (Err told) is = inr (ap Err is)
 
 -- a reading that is told with other faults
-pub told_ok : {A F : Type 0} (turn : F → DecodeFault) (One : Result A F → Type 0) (value : A) → One (Ok value) → OrMemory (Told turn One) (Ok value)
+pub told_ok : {A F : Type 0} (turn : F → DecodeFault) (One : Result A F → Type 0) (value : A) → One (Ok value) → OrMemory (ToldAs turn One) (Ok value)
 told_ok turn One value h = inl (inl (value, h, refl))
 
 pub told_err : {A F : Type 0} (turn : F → DecodeFault) (One : Result A F → Type 0) (fault : F) (result : Result A DecodeFault)
-    → One (Err fault) → IsErrAnd result (λ told. told ≡ turn fault) → OrMemory (Told turn One) result
+    → One (Err fault) → IsErrAnd result (λ told. told ≡ turn fault) → OrMemory (ToldAs turn One) result
 told_err turn One fault (Ok value) h is = absurd is
 told_err turn One fault (Err told) h is = inl (inr (fault, h, ap Err is))
 
 -- what a told reading that wanted no memory read
-pub told_value : {A F : Type 0} (turn : F → DecodeFault) (One : Result A F → Type 0) (value : A) → OrMemory (Told turn One) (Ok value) → One (Ok value)
+pub told_value : {A F : Type 0} (turn : F → DecodeFault) (One : Result A F → Type 0) (value : A) → OrMemory (ToldAs turn One) (Ok value) → One (Ok value)
 told_value turn One value (inl (inl (own, h, is))) = subst (λ x. One (Ok x)) (let same : own ≡ value = cc in same) h
 told_value turn One value (inl (inr (fault, h, is))) = absurd cc
 told_value turn One value (inr none) = absurd cc
@@ -44,22 +44,22 @@ abbrev pub Made : {A B F : Type 0} → (A → B) → (Result A F → Type 0) →
 Made make One = Then One (λ value all. all ≡ Ok (make value))
 
 pub made_ok : {A B F : Type 0} (turn : F → DecodeFault) (make : A → B) (One : Result A F → Type 0) (value : A)
-    → One (Ok value) → OrMemory (Told turn (Made make One)) (Ok (make value))
+    → One (Ok value) → OrMemory (ToldAs turn (Made make One)) (Ok (make value))
 made_ok turn make One value h = inl (inl (make value, goes value h refl, refl))
 
 pub made_err : {A B F : Type 0} (turn : F → DecodeFault) (make : A → B) (One : Result A F → Type 0) (fault : F) (result : Result B DecodeFault)
-    → One (Err fault) → IsErrAnd result (λ told. told ≡ turn fault) → OrMemory (Told turn (Made make One)) result
+    → One (Err fault) → IsErrAnd result (λ told. told ≡ turn fault) → OrMemory (ToldAs turn (Made make One)) result
 made_err turn make One fault (Ok value) h is = absurd is
 made_err turn make One fault (Err told) h is = inl (inr (fault, stops fault h refl, ap Err is))
 
 -- the same of what is told already
 pub remade_ok : {A B F : Type 0} (turn : F → DecodeFault) (make : A → B) (One : Result A F → Type 0) (value : A)
-    → OrMemory (Told turn One) (Ok value) → OrMemory (Told turn (Made make One)) (Ok (make value))
+    → OrMemory (ToldAs turn One) (Ok value) → OrMemory (ToldAs turn (Made make One)) (Ok (make value))
 remade_ok turn make One value h = made_ok turn make One value (told_value turn One value h)
 
 pub remade_err : {A B F : Type 0} (turn : F → DecodeFault) (make : A → B) (One : Result A F → Type 0) (fault : DecodeFault) (result : Result B DecodeFault)
-    → OrMemory (Told turn One) (Err fault) → IsErrAnd result (λ told. told ≡ fault)
-    → OrMemory (Told turn (Made make One)) result
+    → OrMemory (ToldAs turn One) (Err fault) → IsErrAnd result (λ told. told ≡ fault)
+    → OrMemory (ToldAs turn (Made make One)) result
 remade_err turn make One fault (Ok value) h is = absurd is
 remade_err turn make One fault (Err told) (inl (inl (own, h, no_fault))) is = absurd cc
 remade_err turn make One fault (Err told) (inl (inr (own, h, same))) is =

@@ -8,16 +8,16 @@ use Rattle.rdata_field.specs.declared.in_fault.InFault.{InFault}
 use Rattle.rdata_field.specs.declared.in_fault.InFault.TheVariants.{Shape}
 use Rattle.dns_wire.specs.Contents.{TextsStand, TextsIn}
 use Rattle.dns_wire.specs.DecodeFaults.{of_rdata}
-use Rattle.dns_wire.specs.Outcome.{Told, OrMemory}
+use Rattle.dns_wire.specs.Outcome.{ToldAs, OrMemory}
 use Rattle.dns_wire.specs.declared.decode_fault.DecodeFault.{DecodeFault}
 
 -- a character-string that is read
-pub record IsText (message : List ℕ) (to at : ℕ) (text : List ℕ) (next : ℕ) : Type 0 where
+pub record IsTextAt (message : List ℕ) (to at : ℕ) (text : List ℕ) (next : ℕ) : Type 0 where
   pub short : length text ≤ 255
   pub there : StandsWithin message at to (string_wire text)
   pub after : next ≡ at + (length text + 1)
 
-pub text_read : (message : List ℕ) (to at : ℕ) (text : List ℕ) (next : ℕ) → TextIn message to at (Ok (text, next)) → IsText message to at text next
+pub text_read : (message : List ℕ) (to at : ℕ) (text : List ℕ) (next : ℕ) → TextIn message to at (Ok (text, next)) → IsTextAt message to at text next
 text_read message to at text next (inl (own, short, there, is)) =
     let both : ◌≡◌ {A = List ℕ × ℕ} (text, next) (own, at + (length own + 1)) = cc in
     let same : text ≡ own = ap (λ (x : List ℕ × ℕ). x.0) both in
@@ -67,26 +67,26 @@ texts-more message from to texts at text next r h low =
 -- the faults and the end
 told : (message : List ℕ) (from to : ℕ) (fault : InFault) (result : Result (List (List ℕ)) DecodeFault)
     → TextsIn message from to (Err fault) → IsErrAnd result (λ told. told ≡ of_rdata fault)
-    → OrMemory (Told of_rdata (TextsIn message from to)) result
+    → OrMemory (ToldAs of_rdata (TextsIn message from to)) result
 told message from to fault (Ok texts) h is = absurd is
 told message from to fault (Err other) h is = inl (inr (fault, h, ap Err is))
 
 pub texts-none : (message : List ℕ) (from to : ℕ) (fault : InFault) (result : Result (List (List ℕ)) DecodeFault)
     → TextIn message to from (Err fault) → IsErrAnd result (λ told. told ≡ of_rdata fault)
-    → OrMemory (Told of_rdata (TextsIn message from to)) result
+    → OrMemory (ToldAs of_rdata (TextsIn message from to)) result
 texts-none message from to fault result h is =
     let cut = text_cut message to from fault h in
     told message from to fault result (inr ([], from, refl, inr refl, cut.0, ap Err cut.1)) is
 
 pub texts-cut : (message : List ℕ) (from to : ℕ) (texts : List (List ℕ)) (at : ℕ) (fault : InFault) (result : Result (List (List ℕ)) DecodeFault)
     → IsReadingTexts message from to texts at → at < to → TextIn message to at (Err fault)
-    → IsErrAnd result (λ told. told ≡ of_rdata fault) → OrMemory (Told of_rdata (TextsIn message from to)) result
+    → IsErrAnd result (λ told. told ≡ of_rdata fault) → OrMemory (ToldAs of_rdata (TextsIn message from to)) result
 texts-cut message from to texts at fault result r low h is =
     let cut = text_cut message to at fault h in
     told message from to fault result (inr (texts, at, r.stand, inl low, cut.0, ap Err cut.1)) is
 
 pub texts-end : (message : List ℕ) (from to : ℕ) (texts : List (List ℕ)) (at : ℕ)
-    → IsReadingTexts message from to texts at → to ≤ at → OrMemory (Told of_rdata (TextsIn message from to)) (Ok texts)
+    → IsReadingTexts message from to texts at → to ≤ at → OrMemory (ToldAs of_rdata (TextsIn message from to)) (Ok texts)
 texts-end message from to texts at r high =
     let low = r.low in
     let end : at ≡ to = omega arith in

@@ -43,5 +43,5 @@ message_wire message =
     ++ flat_map record_wire message.additional
 
 -- what bytes leave of that much room, or that they have more
-abbrev pub Leaves : ℕ → List ℕ → Option ℕ → Type 0
-Leaves room bytes left = MatchOption left (room < length bytes) (λ rest. rest + length bytes ≡ room)
+abbrev pub LeavesRoom : ℕ → List ℕ → Option ℕ → Type 0
+LeavesRoom room bytes left = MatchOption left (room < length bytes) (λ rest. rest + length bytes ≡ room)

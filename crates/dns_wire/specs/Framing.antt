@@ -35,7 +35,7 @@ abbrev pub IsNoWhole : List ℕ → Type 0
 IsNoWhole bytes = (message after : List ℕ) → ¬ BeginsWith bytes message after
 
 -- the message at the front of the rest was given
-pub record Gives (old new : Stream) (message : List ℕ) : Type 0 where
+pub record GivesMessage (old new : Stream) (message : List ℕ) : Type 0 where
   pub first : BeginsWith old.rest message new.rest
   pub given : new.given ≡ old.given ++ message ∷ []
 

@@ -10,7 +10,7 @@ use Rattle.dns_wire.specs.DecodeFaults.{of_name, of_rdata}
 use Rattle.dns_wire.specs.Forms.{form_of}
 use Rattle.rdata_field.specs.Fields.{U16By, U32By}
 use Rattle.dns_wire.specs.Contents.{ContentIn}
-use Rattle.dns_wire.specs.Outcome.{Told}
+use Rattle.dns_wire.specs.Outcome.{ToldAs}
 use Rattle.dns_wire.specs.declared.question.Question.{Question}
 use Rattle.dns_wire.specs.declared.record.Record.{Record}
 use Rattle.dns_wire.specs.declared.message.Header.{Header}
@@ -56,7 +56,7 @@ RecordAt message at =
     Then (U16At message kind.1) (λ class.
     Then (U32At message class.1) (λ ttl.
     Then (LengthAt message ttl.1) (λ rdata.
-    Then (Told of_rdata (ContentIn (form_of kind.0 class.0) message rdata.1 rdata.0)) (λ content all.
+    Then (ToldAs of_rdata (ContentIn (form_of kind.0 class.0) message rdata.1 rdata.0)) (λ content all.
     (fits : IsTrue (belongs kind.0 class.0 content))
     × (all ≡ Ok (
       record {

@@ -4,8 +4,8 @@ use Rattle.dns_wire.specs.declared.decode_fault.DecodeFault.{DecodeFault}
 use Rattle.dns_wire.specs.declared.decode_fault.DecodeFault.TheVariants.{Memory}
 
 -- a reading whose faults are told as others
-abbrev pub Told : {A F G : Type 0} → (F → G) → (Result A F → Type 0) → Result A G → Type 0
-Told {A} {F} {G} told One result =
+abbrev pub ToldAs : {A F G : Type 0} → (F → G) → (Result A F → Type 0) → Result A G → Type 0
+ToldAs {A} {F} {G} told One result =
     ((value : A) × One (Ok value) × (result ≡ Ok value)) ⊎ ((fault : F) × One (Err fault) × (result ≡ Err (told fault)))
 
 -- a reading, or out of memory

@@ -2,7 +2,7 @@
 ghost use Rattle.std.specs.Prelude.{◌≤◌, length};
 ghost use Rattle.dns_wire.specs.Contents.{ContentIn};
 ghost use Rattle.dns_wire.specs.DecodeFaults.{of_rdata};
-ghost use Rattle.dns_wire.specs.Outcome.{Told, OrMemory};
+ghost use Rattle.dns_wire.specs.Outcome.{ToldAs, OrMemory};
 
 use crate::content::{Content, copy_bytes};
 use crate::decode_fault::DecodeFault;
@@ -27,7 +27,7 @@ pub(crate) fn content_in(
 ) -> Result<Content, DecodeFault>
     requires begin { from ≤ to }
     requires end { to ≤ length message.now }
-    ensures { OrMemory (Told of_rdata (ContentIn form message.now from to)) result }
+    ensures { OrMemory (ToldAs of_rdata (ContentIn form message.now from to)) result }
 {
     match form {
         Form::A => Ok(Content::A(read_address(message, from, to)?)),

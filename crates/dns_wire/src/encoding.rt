@@ -3,7 +3,7 @@ ghost use Rattle.std.specs.Prelude.{◌≡◌, ◌<◌, ◌≤◌, ◌++◌, ◌
 ghost use Rattle.std.specs.List.{AllByRecursion, flat_map};
 ghost use Rattle.dns_wire.specs.Ranges.{IsQuestion, IsRecord, IsHeader, IsMessage};
 ghost use Rattle.dns_wire.specs.Message.{Spells};
-ghost use Rattle.dns_wire.specs.Encoding.{header_wire, counts_of, question_wire, record_wire, message_wire, Leaves};
+ghost use Rattle.dns_wire.specs.Encoding.{header_wire, counts_of, question_wire, record_wire, message_wire, LeavesRoom};
 
 use crate::append::{append, append_u16, append_u32};
 use crate::limits::{HEADER, MOST_BYTES};
@@ -60,7 +60,7 @@ fn is_short(message: &Message) -> bool
 
 // What the message leaves of 65,535 bytes, if it has no more. It stops at the first question or record that passes them.
 fn after_message(message: &Message) -> Option<usize>
-    ensures { Leaves 65_535 (message_wire message.now) result }
+    ensures { LeavesRoom 65_535 (message_wire message.now) result }
 {
     let room = after_questions(message.questions.as_slice(), MOST_BYTES - HEADER)?;
     let room = after_records(message.answers.as_slice(), room)?;
@@ -70,7 +70,7 @@ fn after_message(message: &Message) -> Option<usize>
 
 // What the questions leave of that many bytes.
 fn after_questions(questions: &[Question], room: usize) -> Option<usize>
-    ensures { Leaves room (flat_map question_wire questions.now) result }
+    ensures { LeavesRoom room (flat_map question_wire questions.now) result }
 {
     let mut left = room;
     for question in questions {
@@ -81,14 +81,14 @@ fn after_questions(questions: &[Question], room: usize) -> Option<usize>
 
 // What the question leaves of that many bytes.
 fn after_question(question: &Question, room: usize) -> Option<usize>
-    ensures { Leaves room (question_wire question.now) result }
+    ensures { LeavesRoom room (question_wire question.now) result }
 {
     room.checked_sub(question.name.wire().len() + 4)
 }
 
 // What the records leave of that many bytes.
 fn after_records(records: &[Record], room: usize) -> Option<usize>
-    ensures { Leaves room (flat_map record_wire records.now) result }
+    ensures { LeavesRoom room (flat_map record_wire records.now) result }
 {
     let mut left = room;
     for one in records {
@@ -99,7 +99,7 @@ fn after_records(records: &[Record], room: usize) -> Option<usize>
 
 // What the record leaves of that many bytes.
 fn after_record(one: &Record, room: usize) -> Option<usize>
-    ensures { Leaves room (record_wire one.now) result }
+    ensures { LeavesRoom room (record_wire one.now) result }
 {
     let left = room.checked_sub(one.owner.wire().len() + 10)?;
     left.checked_sub(one.content.rdata_len())

@@ -32,7 +32,7 @@ impl Model for Framer {
 }
 
 impl Framer {
-    ghost use Rattle.dns_wire.specs.Framing.{framed_all, stream_bytes, Gives};
+    ghost use Rattle.dns_wire.specs.Framing.{framed_all, stream_bytes, GivesMessage};
 
     /// A stream of no bytes so far, which takes no memory.
     pub fn new(alloc: Global) -> Framer
@@ -57,7 +57,7 @@ impl Framer {
 
     /// The place of the next whole message in `held`, if one is there. Takes no memory.
     pub fn next(&mut self) -> Option<Range<usize>>
-        ensures message { IfSome result (λ range. Gives self.old self.new (slice_range (stream_bytes self.new) range.start range.end)) }
+        ensures message { IfSome result (λ range. GivesMessage self.old self.new (slice_range (stream_bytes self.new) range.start range.end)) }
         ensures place { IfSome result (λ range. range.start ≡ length (framed_all self.old.given) + 2) }
         ensures within { IfSome result (λ range. (range.start ≤ range.end) × (range.end ≤ length (stream_bytes self.new))) }
         ensures none { IsNone result ↔ IsNoWhole self.old.rest }

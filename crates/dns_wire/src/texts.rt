@@ -1,7 +1,7 @@
 //! The texts of a TXT record in a message.
 ghost use Rattle.std.specs.Prelude.{◌≤◌, length};
 ghost use Rattle.dns_wire.specs.Contents.{TextsIn};
-ghost use Rattle.dns_wire.specs.Outcome.{Told, OrMemory};
+ghost use Rattle.dns_wire.specs.Outcome.{ToldAs, OrMemory};
 ghost use Rattle.dns_wire.specs.DecodeFaults.{of_rdata};
 
 use crate::content::Texts;
@@ -22,7 +22,7 @@ pub(crate) fn texts_in(
 ) -> Result<Texts, DecodeFault>
     requires begin { from ≤ to }
     requires end { to ≤ length message.now }
-    ensures { OrMemory (Told of_rdata (TextsIn message.now from to)) result }
+    ensures { OrMemory (ToldAs of_rdata (TextsIn message.now from to)) result }
 {
     let mut texts = Texts::new(alloc);
     let (first, mut at) = text_in(message, from, to)?;

@@ -12,8 +12,8 @@ use Rattle.enum_app.specs.declared.number.NumberFault.{NumberFault}
 use Rattle.enum_app.specs.declared.number.NumberFault.TheVariants.{NoPlus, NoDigit, TooLong, BadChar}
 
 -- what breaks a spelled text at its next byte
-abbrev Breaks : List ℕ → ℕ → Type 0
-Breaks front byte =
+abbrev BreaksNumber : List ℕ → ℕ → Type 0
+BreaksNumber front byte =
     ((is_ascii_digit byte ≡ true) × (length (digits_of front) ≡ 15)) ⊎ (is_number_byte byte ≡ false)
 
 -- a text is cut before one of its bytes
@@ -69,7 +69,7 @@ length_front (b ∷ text) zero byte e some = absurd (omega arith)
 length_front (b ∷ text) (suc at) byte e some = omega arith
 
 -- a spelled text has no byte that breaks it
-no_break : (text : List ℕ) (at byte : ℕ) → IsSpelled text → IsSpelled (take at text) → slice_get text at ≡ Some byte → Breaks (take at text) byte → ⊥
+no_break : (text : List ℕ) (at byte : ℕ) → IsSpelled text → IsSpelled (take at text) → slice_get text at ≡ Some byte → BreaksNumber (take at text) byte → ⊥
 no_break text at byte s front here (inl h) =
     let fewer : length (digits_of (take at text)) < length (digits_of text) =
     count_front text (take at text) (drop (suc at) text) byte (cut_at text at byte here) h.0 in
@@ -83,19 +83,19 @@ no_break text at byte s front here (inr h) =
 
 -- .. nor has a longer front that is spelled
 no_break_before : (text : List ℕ) (at later byte : ℕ) → at < later → IsSpelled (take later text)
-    → IsSpelled (take at text) → slice_get text at ≡ Some byte → Breaks (take at text) byte → ⊥
+    → IsSpelled (take at text) → slice_get text at ≡ Some byte → BreaksNumber (take at text) byte → ⊥
 no_break_before text at later byte less whole front here breaks =
     let same : take at (take later text) ≡ take at text = take-take_less text at later (omega arith) in
     no_break (take later text) at byte whole (subst IsSpelled (sym same) front)
-    (slice_get-take text later at less ∙ here) (subst (λ f. Breaks f byte) (sym same) breaks)
+    (slice_get-take text later at less ∙ here) (subst (λ f. BreaksNumber f byte) (sym same) breaks)
 
 less_or_same : (n m : ℕ) → (n < m) ⊎ (n ≡ m) ⊎ (m < n)
 less_or_same n m = grind arith
 
 -- a text breaks at one place
 one_place : (text : List ℕ) (at other byte byte' : ℕ) → IsSpelled (take at text) → slice_get text at ≡ Some byte
-    → Breaks (take at text) byte → IsSpelled (take other text) → slice_get text other ≡ Some byte'
-    → Breaks (take other text) byte' → at ≡ other
+    → BreaksNumber (take at text) byte → IsSpelled (take other text) → slice_get text other ≡ Some byte'
+    → BreaksNumber (take other text) byte' → at ≡ other
 one_place text at other byte byte' s h b s' h' b' =
     elim (less_or_same at other) [
       | inl less ↦ absurd (no_break_before text at other byte less s' s h b)

@@ -4,6 +4,7 @@ mod FileLoopLemmas
 mod HexLemmas
 mod InputLemmas
 mod InquiryLemmas
+mod KeyLemmas
 mod LawLemmas
 mod LineLemmas
 mod ObjectLemmas

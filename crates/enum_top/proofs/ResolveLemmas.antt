@@ -1,5 +1,5 @@
 -- The work of `resolve` comes to one verdict.
-use Rattle.std.proofs.Common.{◌≡◌, ℕ, List, [], Option, Some, None, Result, Ok, refl, sym, ap, subst, ◌∙◌}
+use Rattle.std.proofs.Common.{◌≡◌, ℕ, List, [], length, map, Option, Some, None, Result, Ok, refl, sym, ap, subst, ◌∙◌}
 use Rattle.std.specs.Prelude.{IsSome}
 use Rattle.dns_name.specs.Name.{folded_labels}
 use Rattle.enum_base.proofs.StageLemmas.{IsSingle, IsSingle-then}
@@ -7,6 +7,7 @@ use Rattle.enum_base.specs.Outside.{File}
 use Rattle.enum_base.specs.Stages.Then.{stops}
 use Rattle.zone_build.specs.Plain as plain
 use Rattle.zone_build.specs.Zone.{Zone}
+use Rattle.request_words.specs.Words.{cells}
 use Rattle.request_words.specs.declared.request.AppName.{AppName}
 use Rattle.request_words.specs.declared.request.Resolution.{Resolution}
 use Rattle.enum_top.specs.Applications.{Inquiry}
@@ -26,11 +27,11 @@ IsSingle-reports law app inquiry zones = record { same = same }
   where
     same : (r s : Result Printed Cause) → Reports app inquiry zones r → Reports app inquiry zones s → r ≡ s
     same r s (one, answers, is) (other, answers', is') =
-        is ∙ ap Ok (law (client_for app inquiry) (plain.told zones) (folded_labels inquiry.key) one other answers answers') ∙ sym is'
+        is ∙ ap Ok (law (length inquiry.keys) (client_for app inquiry) (plain.told zones) (map folded_labels inquiry.keys) one other answers answers') ∙ sym is'
 
 IsSingle-resolves : AreLaws → HasOneText → (files : List File) (words : List (List ℕ)) (asked : Resolution) → IsSingle (Resolves (Some files) words asked)
 IsSingle-resolves laws law files words asked =
-    IsSingle-then _ _ (IsSingle-asks words asked.app asked.string asked.want asked.apex)
+    IsSingle-then _ _ (IsSingle-asks words asked.app asked.string asked.want (cells asked.apexes))
     (λ inquiry. IsSingle-then _ _ (IsSingle-from laws files words [] (files_of asked.origin))
     (λ zones. IsSingle-reports law asked.app inquiry zones))
 

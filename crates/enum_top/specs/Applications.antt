@@ -1,7 +1,7 @@
 -- What each application makes of the words of a request: its original string, the services that are wanted, and the
--- domain that its walk begins at (RFC 3402, section 3; ENUM: RFC 6116, sections 1.2 and 3.2; S-NAPTR: RFC 3958,
+-- domains that its walk begins at (RFC 3402, section 3; ENUM: RFC 6116, sections 1.2 and 3.2; S-NAPTR: RFC 3958,
 -- section 6; U-NAPTR: RFC 4848, section 4).
-use Rattle.std.specs.Prelude.{◌≡◌, ◌⊎◌, ℕ, nat_le, List, [], ◌∷◌, length, if◌then◌else◌, Option, Some, None, option_map, Result, Ok, Err}
+use Rattle.std.specs.Prelude.{◌≡◌, ◌⊎◌, ℕ, nat_le, List, [], ◌∷◌, length, map, if◌then◌else◌, Option, Some, None, option_map, Result, Ok, Err}
 use Rattle.dns_name.specs.Name.{wire_of}
 use Rattle.dns_name.specs.Reading.{name_of}
 use Rattle.dns_name.specs.declared.fault.NameFault.{NameFault}
@@ -59,49 +59,68 @@ faultless want (Some fault) = Err (cause.Want fault)
 abbrev pub Wants : AppName → Option (List ℕ) → Result (Option (List ℕ)) Cause → Type 0
 Wants app want result = result ≡ faultless want (want_fault app want)
 
--- the domain that a text stands for, or its fault
-abbrev pub as_apex : Result Labels NameFault → Result Labels Cause
-as_apex (Ok labels) = Ok labels
-as_apex (Err fault) = Err (cause.Apex fault)
+-- one value before others
+abbrev pub after : {A F : Type 0} → A → Result (List A) F → Result (List A) F
+after value (Ok values) = Ok (value ∷ values)
+after value (Err fault) = Err fault
 
--- the apex: the name of a text, with the root as origin, or e164.arpa.
-abbrev pub apex_of : Option (List ℕ) → Result Labels NameFault
-apex_of None = Ok e164_arpa
-apex_of (Some text) = name_of text (Some [])
+-- all values of a list, or its first fault
+abbrev pub every : {A F : Type 0} → List (Result A F) → Result (List A) F
+every [] = Ok []
+every (Ok value ∷ results) = after value (every results)
+every (Err fault ∷ results) = Err fault
+
+-- the name of a text, with the root as origin
+abbrev pub apex_of : List ℕ → Result Labels NameFault
+apex_of text = name_of text (Some [])
+
+-- the apexes: the name of each text; e164.arpa. where there is none
+abbrev pub apexes_of : List (List ℕ) → Result (List Labels) NameFault
+apexes_of [] = Ok (e164_arpa ∷ [])
+apexes_of (text ∷ texts) = every (map apex_of (text ∷ texts))
+
+-- .. or the fault of the first that is no name
+abbrev pub as_apexes : Result (List Labels) NameFault → Result (List Labels) Cause
+as_apexes (Ok apexes) = Ok apexes
+as_apexes (Err fault) = Err (cause.Apex fault)
 
 -- .. of the words
-abbrev pub Apexes : Option (List ℕ) → Result Labels Cause → Type 0
-Apexes apex result = result ≡ as_apex (apex_of apex)
+abbrev pub Apexes : List (List ℕ) → Result (List Labels) Cause → Type 0
+Apexes apexes result = result ≡ as_apexes (apexes_of apexes)
 
 -- labels that fit a name
 abbrev pub fitting : Labels → Result Labels Cause
 fitting labels = if nat_le (length (wire_of labels)) 255 then Ok labels else Err cause.Key
 
--- the domain of digits: the last one first, under the apex
-abbrev pub Numbered : List ℕ → Option (List ℕ) → Result Labels Cause → Type 0
-Numbered digits apex = Then (Apexes apex) (λ top result. result ≡ fitting (key_labels digits top))
+-- the domain of digits under an apex: the last digit first (RFC 6116, section 3.2)
+abbrev pub under : List ℕ → Labels → Result Labels Cause
+under digits top = fitting (key_labels digits top)
 
--- the name that a text stands for; one whose string has no fault stands for one
-abbrev pub domain_key : Result Labels NameFault → Result Labels Cause
-domain_key (Ok labels) = Ok labels
+-- the domains of digits: every apex in turn, and then the domain under each of them in turn
+abbrev pub Numbered : List ℕ → List (List ℕ) → Result (List Labels) Cause → Type 0
+Numbered digits apexes = Then (Apexes apexes) (λ tops result. result ≡ every (map (under digits) tops))
+
+-- the name that a text stands for, alone; one whose string has no fault stands for one
+abbrev pub domain_key : Result Labels NameFault → Result (List Labels) Cause
+domain_key (Ok labels) = Ok (labels ∷ [])
 domain_key (Err fault) = Err (cause.Domain (BadName fault))
 
--- the domain that the walk begins at. ENUM: that of the digits; S-NAPTR and U-NAPTR: the name of the text
-abbrev pub Keys : AppName → List ℕ → Option (List ℕ) → Result Labels Cause → Type 0
-Keys Enum text apex result = Numbered (digits_of text) apex result
-Keys Snaptr text apex result = result ≡ domain_key (key_of text)
-Keys Unaptr text apex result = result ≡ domain_key (key_of text)
+-- the keys: the domains that the walk begins at. ENUM: those of the digits; S-NAPTR and U-NAPTR: the name of the text
+abbrev pub Keys : AppName → List ℕ → List (List ℕ) → Result (List Labels) Cause → Type 0
+Keys Enum text apexes result = Numbered (digits_of text) apexes result
+Keys Snaptr text apexes result = result ≡ domain_key (key_of text)
+Keys Unaptr text apexes result = result ≡ domain_key (key_of text)
 
--- what is asked: the original string, the wanted list, and the domain
+-- what is asked: the original string, the wanted list, and the keys
 pub record Inquiry : Type 0 where
   pub string : List ℕ
   pub want : Option (List ℕ)
-  pub key : Labels
+  pub keys : List Labels
 
--- what the words ask: first the string, then the wanted list, then the apex and the domain
-abbrev pub Asks : List (List ℕ) → AppName → ℕ → Option ℕ → Option ℕ → Result Inquiry Cause → Type 0
-Asks words app string want apex =
+-- what the words ask: first the string, then the wanted list, then every apex, then every key
+abbrev pub Asks : List (List ℕ) → AppName → ℕ → Option ℕ → List ℕ → Result Inquiry Cause → Type 0
+Asks words app string want apexes =
     Then (Strings app (text_at words string)) (λ original.
     Then (Wants app (option_map (text_at words) want)) (λ wanted.
-    Then (Keys app (text_at words string) (option_map (text_at words) apex)) (λ domain result.
-    result ≡ Ok (record { string = original; want = wanted; key = domain }))))
+    Then (Keys app (text_at words string) (map (text_at words) apexes)) (λ domains result.
+    result ≡ Ok (record { string = original; want = wanted; keys = domains }))))

@@ -1,5 +1,5 @@
 -- What `resolve APP STRING` comes to.
-use Rattle.std.specs.Prelude.{◌≡◌, ℕ, List, [], ◌∷◌, take, Option, Result, Ok, Err}
+use Rattle.std.specs.Prelude.{◌≡◌, ℕ, List, [], ◌∷◌, length, map, Option, Result, Ok, Err}
 use Rattle.dns_name.specs.Name.{folded_labels}
 use Rattle.ddds_walk.specs.Report.{Answers}
 use Rattle.ddds_walk.specs.Rules.{Client, client_of}
@@ -9,6 +9,7 @@ use Rattle.enum_base.specs.Outside.{File}
 use Rattle.zone_build.specs.Plain.{told}
 use Rattle.zone_build.specs.Zone.{Zone}
 use Rattle.report_text.specs.Printing.{printed}
+use Rattle.request_words.specs.Words.{cells}
 use Rattle.request_words.specs.declared.request.AppName.{AppName}
 use Rattle.request_words.specs.declared.request.Origin.{Origin}
 use Rattle.request_words.specs.declared.request.Origin.TheVariants.{Files}
@@ -33,30 +34,31 @@ ending_of (Ends []) = ending.Nothing
 ending_of (Ends (e ∷ ends)) = ending.Done
 ending_of (Loop path) = ending.Loop
 
--- the text of a report
-abbrev pub printed_as : Report → Printed
-printed_as report = record { ending = ending_of report; text = printed report }
+-- the text of a report from so many keys
+abbrev pub printed_as : ℕ → Report → Printed
+printed_as keys report = record { ending = ending_of report; text = printed keys report }
 
 -- the text of what a walk over the zones answers
 abbrev pub Reports : AppName → Inquiry → List Zone → Result Printed Cause → Type 0
 Reports app inquiry zones result =
-    (report : Report) × Answers (client_for app inquiry) (told zones) (folded_labels inquiry.key) report × (result ≡ Ok (printed_as report))
+    (report : Report) × Answers (client_for app inquiry) (told zones) (map folded_labels inquiry.keys) report
+    × (result ≡ Ok (printed_as (length inquiry.keys) report))
 
 -- the places of the names of the files
 abbrev pub files_of : Origin → List ℕ
-files_of (Files zones) = take zones.count zones.at
+files_of (Files zones) = cells zones
 
 -- what is asked, then the zones of the files, then the report
 abbrev pub Resolves : Option (List File) → List (List ℕ) → Resolution → Result Printed Cause → Type 0
 Resolves files words asked =
-    Then (Asks words asked.app asked.string asked.want asked.apex) (λ inquiry.
+    Then (Asks words asked.app asked.string asked.want (cells asked.apexes)) (λ inquiry.
     Then (ZonesOf files words (files_of asked.origin)) (Reports asked.app inquiry))
 
--- the work of `resolve`: the string, the wanted list, the apex and the domain are of the words alone
+-- the work of `resolve`: the string, the wanted list, the apexes and the keys are of the words alone
 abbrev pub resolve_work : List (List ℕ) → Resolution → Work
 resolve_work words asked = record {
   answers = λ told. AtOnce (Resolves told.files words asked);
-  breaks = λ cause. Asks words asked.app asked.string asked.want asked.apex (Err cause);
+  breaks = λ cause. Asks words asked.app asked.string asked.want (cells asked.apexes) (Err cause);
   uses = λ object. object ≡ Shelf;
   fronts = λ told front. ⊥;
 }

@@ -5,6 +5,7 @@ use Rattle.enum_app.specs.Number.{plus}
 use Rattle.enum_base.specs.Outside.{SinkState}
 use Rattle.enum_base.specs.Stages.{Then}
 use Rattle.enum_base.specs.Writing.{Gains, Takes}
+use Rattle.naptr_data.specs.Zones.{Labels}
 use Rattle.request_words.specs.Words.{Means, IsRequest}
 use Rattle.request_words.specs.declared.request.Request.{Request}
 use Rattle.service_field.specs.Wanted.{wanted_text}
@@ -21,6 +22,7 @@ use Rattle.enum_top.specs.Verdicts.Verdict.{prints, refuses}
 use Rattle.enum_top.specs.ZoneFiles.{Texts}
 use Rattle.enum_top.specs.declared.cause.Cause.{Cause}
 use Rattle.enum_top.specs.declared.cause.Cause.TheVariants.{Text, Want}
+use Rattle.enum_top.specs.declared.domains.Domains.{Domains}
 use Rattle.enum_top.specs.declared.inquiry.Inquiry.{Inquiry}
 use Rattle.enum_top.specs.declared.objects.Object.{Object}
 use Rattle.enum_top.specs.declared.objects.Object.TheVariants.{Shelf, Input, Output}
@@ -66,9 +68,18 @@ abbrev pub wanted_or_cause : Result Wanted ServiceFault → Result (Option (List
 wanted_or_cause (Ok wanted) = Ok (wanted_text wanted)
 wanted_or_cause (Err fault) = Err (Want fault)
 
+-- the domains of a row
+abbrev pub listed : Domains → List Labels
+listed domains = take domains.count domains.row
+
+-- .. that was made, or why not
+abbrev pub domains_in : {F : Type 0} → Result Domains F → Result (List Labels) F
+domains_in (Ok domains) = Ok (listed domains)
+domains_in (Err fault) = Err fault
+
 -- what is asked, without the slices that it is held in
 abbrev pub inquiry_of : Inquiry → applications.Inquiry
-inquiry_of inquiry = record { string = inquiry.string; want = wanted_text inquiry.wanted; key = inquiry.key }
+inquiry_of inquiry = record { string = inquiry.string; want = wanted_text inquiry.wanted; keys = listed inquiry.keys }
 
 abbrev pub inquiry_in : Result Inquiry Cause → Result applications.Inquiry Cause
 inquiry_in (Ok inquiry) = Ok (inquiry_of inquiry)

@@ -1,11 +1,12 @@
 //! What the words ask of the zones.
-ghost use Rattle.std.specs.Prelude.{◌≡◌, ◌≢◌, ℕ, Option, Some, IfOk, option_map};
-ghost use Rattle.enum_app.specs.Number.{digits_of, key_labels};
-ghost use Rattle.enum_top.specs.Applications.{Asks, Numbered, Strings, Wants, apex_of, fitting};
-ghost use Rattle.enum_top.specs.Running.{inquiry_in, string_in, wanted_in, wanted_or_cause};
-ghost use Rattle.request_words.specs.Words.{text_at, texts_of};
+ghost use Rattle.std.specs.Prelude.{◌≡◌, ◌≢◌, ◌≤◌, ℕ, List, Some, IfOk, length, map, option_map};
+ghost use Rattle.enum_app.specs.Number.{digits_of};
+ghost use Rattle.enum_top.specs.Applications.{Asks, Numbered, Strings, Wants, apex_of, apexes_of, every, under};
+ghost use Rattle.enum_top.specs.Running.{domains_in, inquiry_in, string_in, wanted_in, wanted_or_cause};
+ghost use Rattle.request_words.specs.Words.{cells, text_at, texts_of};
 
 use crate::cause::Cause;
+use crate::domains::Domains;
 use dns_name::{Name, NameFault};
 use enum_app::{Number, default_apex};
 use enum_base::Text255;
@@ -13,37 +14,39 @@ use request_words::{AppName, Resolution, text_at};
 use service_field::{ServiceFault, Wanted, want_enum, want_snaptr};
 use snaptr_app::Domain;
 
-/// The original string of an application, the services that are wanted, and the domain that the walk begins at.
+/// The original string of an application, the services that are wanted, and the keys: the domains that the walk begins at.
 #[derive(Clone, Copy, Debug)]
 pub(crate) struct Inquiry<'a> {
     pub(crate) string: Text255,
     pub(crate) wanted: Wanted<'a>,
-    pub(crate) key: Name,
+    pub(crate) keys: Domains,
 }
 
-/// Reads what the words ask: the string, the wanted list, the apex and the domain, of which the first that is
+/// Reads what the words ask: the string, the wanted list, every apex and then every key, of which the first that is
 /// ill-formed is told. Takes no memory.
 pub(crate) fn read_inquiry<'a>(
     words: &'a [String],
     asked: &Resolution,
 ) -> Result<Inquiry<'a>, Cause>
-    ensures { Asks (texts_of words.now) asked.now.app asked.now.string asked.now.want asked.now.apex (inquiry_in result) }
+    requires few { asked.now.apexes.count ≤ 8 }
+    ensures { Asks (texts_of words.now) asked.now.app asked.now.string asked.now.want (cells asked.now.apexes) (inquiry_in result) }
 {
     match asked.app {
-        AppName::Enum => ask_number(words, asked.string, asked.want, asked.apex),
+        AppName::Enum => ask_number(words, asked.string, asked.want, asked.apexes.as_slice()),
         AppName::Snaptr => ask_domain(words, AppName::Snaptr, asked.string, asked.want),
         AppName::Unaptr => ask_domain(words, AppName::Unaptr, asked.string, asked.want),
     }
 }
 
 // A telephone number.
-fn ask_number(
-    words: &[String],
+fn ask_number<'a>(
+    words: &'a [String],
     string: usize,
     want: Option<usize>,
-    apex: Option<usize>,
-) -> Result<Inquiry<'_>, Cause>
-    ensures { Asks (texts_of words.now) AppName.Enum string want apex (inquiry_in result) }
+    apexes: &[usize],
+) -> Result<Inquiry<'a>, Cause>
+    requires few { length apexes.now ≤ 8 }
+    ensures { Asks (texts_of words.now) AppName.Enum string want apexes.now (inquiry_in result) }
 {
     let number = match read_number(text_at(words, string).as_bytes()) {
         Ok(number) => number,
@@ -53,14 +56,14 @@ fn ask_number(
         Ok(wanted) => wanted,
         Err(cause) => return Err(cause),
     };
-    let key = match read_key(&number, words, apex) {
-        Ok(key) => key,
+    let keys = match read_keys(&number, words, apexes) {
+        Ok(keys) => keys,
         Err(cause) => return Err(cause),
     };
     Ok(Inquiry {
         string: number.aus(),
         wanted,
-        key,
+        keys,
     })
 }
 
@@ -72,7 +75,7 @@ fn ask_domain(
     want: Option<usize>,
 ) -> Result<Inquiry<'_>, Cause>
     requires { app ≢ AppName.Enum }
-    ensures { (apex : Option ℕ) → Asks (texts_of words.now) app string want apex (inquiry_in result) }
+    ensures { (apexes : List ℕ) → Asks (texts_of words.now) app string want apexes (inquiry_in result) }
 {
     let domain = match Domain::parse(text_at(words, string).as_bytes()) {
         Ok(domain) => domain,
@@ -85,7 +88,7 @@ fn ask_domain(
     Ok(Inquiry {
         string: domain.aus(),
         wanted,
-        key: domain.key(),
+        keys: Domains::one(domain.key()),
     })
 }
 
@@ -128,28 +131,67 @@ fn wanted_or_cause(read: Result<Wanted<'_>, ServiceFault>) -> Result<Wanted<'_>,
     }
 }
 
-// The domain of a number under the apex at a place.
-fn read_key(number: &Number, words: &[String], apex: Option<usize>) -> Result<Name, Cause>
-    ensures { Numbered number.now (option_map (text_at (texts_of words.now)) apex) result }
+// The domains of a number under the apexes at these places.
+fn read_keys(number: &Number, words: &[String], apexes: &[usize]) -> Result<Domains, Cause>
+    requires few { length apexes.now ≤ 8 }
+    ensures { Numbered number.now (map (text_at (texts_of words.now)) apexes.now) (domains_in result) }
 {
-    match read_apex(words, apex) {
-        Ok(top) => key_under(number, &top),
+    match read_apexes(words, apexes) {
+        Ok(tops) => keys_under(number, tops.as_slice()),
         Err(fault) => Err(Cause::Apex(fault)),
     }
 }
 
-// The apex at a place; `e164.arpa.` where there is none.
-fn read_apex(words: &[String], apex: Option<usize>) -> Result<Name, NameFault>
-    ensures { result ≡ apex_of (option_map (text_at (texts_of words.now)) apex) }
+// The apexes at these places; `e164.arpa.` where there is none.
+fn read_apexes(words: &[String], apexes: &[usize]) -> Result<Domains, NameFault>
+    requires few { length apexes.now ≤ 8 }
+    ensures { domains_in result ≡ apexes_of (map (text_at (texts_of words.now)) apexes.now) }
 {
-    match apex {
-        Some(place) => Name::from_text(text_at(words, place).as_bytes(), Some(&Name::root())),
-        None => Ok(default_apex()),
+    if apexes.is_empty() {
+        Ok(Domains::one(default_apex()))
+    } else {
+        read_names(words, apexes)
     }
 }
 
+// The names at these places.
+fn read_names(words: &[String], places: &[usize]) -> Result<Domains, NameFault>
+    requires few { length places.now ≤ 8 }
+    ensures { domains_in result ≡ every (map apex_of (map (text_at (texts_of words.now)) places.now)) }
+{
+    let mut names = Domains::none();
+    for place in places {
+        match read_apex(text_at(words, *place).as_bytes()) {
+            Ok(name) => names.push(name),
+            Err(fault) => return Err(fault),
+        }
+    }
+    Ok(names)
+}
+
+fn read_apex(text: &[u8]) -> Result<Name, NameFault>
+    ensures { result ≡ apex_of text.now }
+{
+    Name::from_text(text, Some(&Name::root()))
+}
+
+// The domain of a number under each of these apexes.
+fn keys_under(number: &Number, tops: &[Name]) -> Result<Domains, Cause>
+    requires few { length tops.now ≤ 8 }
+    ensures { domains_in result ≡ every (map (under number.now) tops.now) }
+{
+    let mut keys = Domains::none();
+    for top in tops {
+        match key_under(number, top) {
+            Ok(key) => keys.push(key),
+            Err(cause) => return Err(cause),
+        }
+    }
+    Ok(keys)
+}
+
 fn key_under(number: &Number, apex: &Name) -> Result<Name, Cause>
-    ensures { result ≡ fitting (key_labels number.now apex.now) }
+    ensures { result ≡ under number.now apex.now }
 {
     match number.key(apex) {
         Ok(key) => Ok(key),

@@ -3,6 +3,7 @@
 
 mod cause;
 mod commands;
+mod domains;
 mod input;
 mod inquiry;
 mod laws;

@@ -23,7 +23,7 @@ use crate::objects::{Object, Objects};
 use crate::status::{Ending, Printed, Status};
 use crate::why::Why;
 use enum_base::{Shelf, Sink, Source, write_whole};
-use request_words::{Request, read_words};
+use request_words::{Request, few_apexes, read_words};
 use std::alloc::Global;
 
 /// Does what the words ask for, and says how it ended. `words` leaves out the program's own name. Files are read from
@@ -178,11 +178,13 @@ fn text_of<S: Shelf, I: Source, O: Sink>(
     request: &Request,
     objects: &mut Objects<'_, '_, '_, S, I, O>,
 ) -> Result<Printed, Why>
+    requires { Means (texts_of words.now) request.now }
     ensures does { DoesWork (told_by (S.state objects.old.shelf.now) (I.state objects.old.input.now)) (work_of (texts_of words.now) request.now) result }
     ensures objects { Handles S.state I.state O.state (work_of (texts_of words.now) request.now).uses
         (λ object. IsErrOf result (Why.Outside object)) objects.old objects.new }
     ensures unwritten { objects.new.out.now ≡ objects.old.out.now }
 {
+    few_apexes();
     match request {
         Request::Resolve(asked) => commands::resolve::resolve_text(
             alloc,

@@ -11,7 +11,7 @@ use Rattle.naptr_data.specs.declared.source.SourceFault.TheVariants.{Trouble}
 -- what a source tells of itself: the zones that it answers from, which need not be told; how often it was asked and had
 -- trouble, and whether the last answer was trouble; how many names it keeps at most, the folded names that it keeps, the
 -- last asked first, and how often it fetched one that it did not keep; and what it was lent
-pub record SourceState : Type 0 where
+pub record RuleSourceState : Type 0 where
   pub zones : Option (List Zone)
   pub asks : ℕ
   pub troubles : ℕ
@@ -56,7 +56,7 @@ pub record AreKept (names : List Labels) (fetched : ℕ) : Type 0 where
   pub few : length names ≤ fetched
 
 -- trouble comes only where the count of troubles rose, and the source has then failed
-pub record HasTrouble {A : Type 0} (old new : SourceState) (result : Result A SourceFault) : Type 0 where
+pub record HasTrouble {A : Type 0} (old new : RuleSourceState) (result : Result A SourceFault) : Type 0 where
   pub later : old.troubles ≤ new.troubles
   pub rose : result ≡ Err Trouble → Rose old.troubles new.troubles
   pub failed : result ≡ Err Trouble → IsTrue new.failed

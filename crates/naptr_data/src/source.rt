@@ -3,7 +3,7 @@ ghost use Rattle.std.specs.Prelude.{◌≡◌, IfOk};
 ghost use Rattle.dns_name.specs.Name.{folded_labels};
 ghost use Rattle.enum_base.specs.Causes.{one_more};
 ghost use Rattle.enum_base.specs.Outside.{WhereTold};
-ghost use Rattle.naptr_data.specs.Sources.{SourceState, HasFewRules, KeepsNames, Fetches, AreKept, HasTrouble};
+ghost use Rattle.naptr_data.specs.Sources.{RuleSourceState, HasFewRules, KeepsNames, Fetches, AreKept, HasTrouble};
 ghost use Rattle.naptr_data.specs.Zones.{IsOffer};
 
 use crate::offer::Offer;
@@ -22,7 +22,7 @@ pub enum SourceFault {
 /// Who is asked for the rules at a name (RFC 3403, section 4).
 pub trait RuleSource {
     /// What it tells of itself.
-    ghost state: { Self → SourceState };
+    ghost state: { Self → RuleSourceState };
 
     /// What is at a name; the case of its letters decides nothing.
     ///

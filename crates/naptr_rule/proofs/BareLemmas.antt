@@ -7,7 +7,7 @@ use Rattle.std.proofs.lemmas.List.{get_or_past}
 use Rattle.std.specs.List.{AllByRecursion, flat_map}
 use Rattle.enum_base.proofs.StageLemmas.{IsSingle, IsTotal}
 use Rattle.dns_name.specs.Name.{IsLabel, IsName, IsByte, label_wire, wire_of}
-use Rattle.dns_name.specs.Wire.{StandsAt, Field, Leads, labels_in, after_pointer, NameAt, Reaches, IsCut, NameBreaks, by_label, by_pointer}
+use Rattle.dns_name.specs.Wire.{StandsAt, Field, Leads, labels_in, after_pointer, NameAt, Reaches, FieldIsCut, NameBreaks, by_label, by_pointer}
 use Rattle.dns_name.specs.declared.wire_fault.WireFault.{WireFault}
 use Rattle.dns_name.specs.declared.wire_fault.WireFault.TheVariants as wire
 use Rattle.dns_name.proofs.ReadLemmas.{one_name, one_fault, not_both, stands}
@@ -156,7 +156,7 @@ bare_err : (bytes : List ℕ) (from : ℕ) (fault : WireFault) → NameBreaks (d
 bare_err bytes from (wire.Short at) (labels, start, far, cut) =
     inr (labels, from + at, stand_from bytes from labels at (led_reach (drop from bytes) labels start at far), by_cut cut)
   where
-    by_cut : IsCut (drop from bytes) at
+    by_cut : FieldIsCut (drop from bytes) at
         → (LabelIsCut bytes (from + at) × ◌≡◌ {A = Result (List (List ℕ) × ℕ) RdataFault} (Err (cut_fault bytes (from + at))) (Err (Short (from + at))))
         ⊎ (LabelIsBad bytes labels (from + at)
         × ◌≡◌ {A = Result (List (List ℕ) × ℕ) RdataFault} (Err (cut_fault bytes (from + at)))

@@ -1,6 +1,6 @@
 //! How a report is printed.
 ghost use Rattle.std.specs.Prelude.{◌≡◌, ◌++◌, OnOk, IfOk, decimal, flat_map, codes};
-ghost use Rattle.report_text.specs.Printing.{path_text, word_of, rule_text, given_text, end_line, last_domain};
+ghost use Rattle.report_text.specs.Printing.{dotted, path_text, word_of, rule_text, given_text, end_line, last_domain};
 ghost use Rattle.report_text.specs.Printing.{loop_line, edge_line, edge_lines, last_line, printed};
 
 use ddds_walk::{End, LoopPath, Outcome, Report};
@@ -9,51 +9,52 @@ use enum_base::{Bytes, MemoryFault, push_number};
 use naptr_data::Naptr;
 use std::alloc::Global;
 
-/// The printed report: a line for each end, or a loop with its edges, and last the number of ends.
+/// The printed report of a walk from `keys` keys: a line for each end, or a loop with its edges, and last the number of
+/// ends. A path is the ranks, with the place of the key in front where there are several keys.
 ///
 /// # Errors
 /// `MemoryFault` where memory is out.
-pub fn print_report(alloc: Global, report: &Report) -> Result<Bytes, MemoryFault>
-    ensures { IfOk result (λ text. text ≡ printed report.now) }
+pub fn print_report(alloc: Global, report: &Report, keys: usize) -> Result<Bytes, MemoryFault>
+    ensures { IfOk result (λ text. text ≡ printed keys report.now) }
 {
     let mut text = Bytes::new(alloc);
     match report {
-        Report::Ends(ends) => push_report(ends.as_slice(), &mut text)?,
-        Report::Loop(path) => push_loop(path, &mut text)?,
+        Report::Ends(ends) => push_report(ends.as_slice(), keys, &mut text)?,
+        Report::Loop(path) => push_loop(path, keys, &mut text)?,
     }
     Ok(text)
 }
 
-fn push_report(ends: &[End], out: &mut Bytes) -> Result<(), MemoryFault>
-    ensures { OnOk result (out.new ≡ out.old ++ printed (Report.Ends ends.now)) }
+fn push_report(ends: &[End], keys: usize, out: &mut Bytes) -> Result<(), MemoryFault>
+    ensures { OnOk result (out.new ≡ out.old ++ printed keys (Report.Ends ends.now)) }
 {
-    push_ends(ends, out)?;
+    push_ends(ends, keys, out)?;
     push_last(ends.len(), out)
 }
 
-fn push_loop(path: &LoopPath, out: &mut Bytes) -> Result<(), MemoryFault>
-    ensures { OnOk result (out.new ≡ out.old ++ printed (Report.Loop path.now)) }
+fn push_loop(path: &LoopPath, keys: usize, out: &mut Bytes) -> Result<(), MemoryFault>
+    ensures { OnOk result (out.new ≡ out.old ++ printed keys (Report.Loop path.now)) }
 {
-    push_loop_line(path, out)?;
+    push_loop_line(path, keys, out)?;
     push_edges(path.ranks.as_slice(), path.domains.as_slice(), out)?;
     push_last(0, out)
 }
 
-fn push_ends(ends: &[End], out: &mut Bytes) -> Result<(), MemoryFault>
-    ensures { OnOk result (out.new ≡ out.old ++ flat_map end_line ends.now) }
+fn push_ends(ends: &[End], keys: usize, out: &mut Bytes) -> Result<(), MemoryFault>
+    ensures { OnOk result (out.new ≡ out.old ++ flat_map (end_line keys) ends.now) }
 {
     for end in ends {
-        push_end(end, out)?;
+        push_end(end, keys, out)?;
     }
     Ok(())
 }
 
-fn push_end(end: &End, out: &mut Bytes) -> Result<(), MemoryFault>
-    ensures { OnOk result (out.new ≡ out.old ++ end_line end.now) }
+fn push_end(end: &End, keys: usize, out: &mut Bytes) -> Result<(), MemoryFault>
+    ensures { OnOk result (out.new ≡ out.old ++ end_line keys end.now) }
 {
     out.push_slice(word_of(&end.outcome))?;
     out.push_slice(b" ")?;
-    push_path(end.ranks.as_slice(), out)?;
+    push_path(keys, end.place, end.ranks.as_slice(), out)?;
     out.push_slice(b" ")?;
     end.domain.to_text(out)?;
     push_rule(&end.rule, out)?;
@@ -100,8 +101,21 @@ fn push_given(outcome: &Outcome, out: &mut Bytes) -> Result<(), MemoryFault>
     }
 }
 
-fn push_path(ranks: &[u32], out: &mut Bytes) -> Result<(), MemoryFault>
-    ensures { OnOk result (out.new ≡ out.old ++ path_text ranks.now) }
+// The path of a derivation from one of so many keys.
+fn push_path(keys: usize, place: u8, ranks: &[u32], out: &mut Bytes) -> Result<(), MemoryFault>
+    ensures { OnOk result (out.new ≡ out.old ++ path_text keys place ranks.now) }
+{
+    if keys > 1 {
+        push_number(b"", usize::from(place), out)?;
+        push_ranks(ranks, out)
+    } else {
+        push_dotted(ranks, out)
+    }
+}
+
+// The ranks with dots between; a hyphen where there is none.
+fn push_dotted(ranks: &[u32], out: &mut Bytes) -> Result<(), MemoryFault>
+    ensures { OnOk result (out.new ≡ out.old ++ dotted ranks.now) }
 {
     let [first, rest @ ..] = ranks else {
         return out.push_slice(b"-");
@@ -120,11 +134,11 @@ fn push_ranks(ranks: &[u32], out: &mut Bytes) -> Result<(), MemoryFault>
     Ok(())
 }
 
-fn push_loop_line(path: &LoopPath, out: &mut Bytes) -> Result<(), MemoryFault>
-    ensures { OnOk result (out.new ≡ out.old ++ loop_line path.now) }
+fn push_loop_line(path: &LoopPath, keys: usize, out: &mut Bytes) -> Result<(), MemoryFault>
+    ensures { OnOk result (out.new ≡ out.old ++ loop_line keys path.now) }
 {
     out.push_slice(b"loop ")?;
-    push_path(path.ranks.as_slice(), out)?;
+    push_path(keys, path.place, path.ranks.as_slice(), out)?;
     out.push_slice(b" ")?;
     last_domain(path.domains.as_slice()).to_text(out)?;
     out.push_slice(b"\n")

@@ -1,3 +1,4 @@
+mod ApexLemmas
 mod OptionLemmas
 mod PlaceLemmas
 pub mod ReadingLemmas

@@ -1,5 +1,5 @@
 -- The reading of words finds exactly the requests that words mean.
-use Rattle.std.proofs.Common.{◌≡◌, Result, Ok, Err, ℕ, ◌≤◌, Bool, true, false, List, [], ◌∷◌, length, Option, Some, None, refl, sym, ap, ◌∙◌, arith}
+use Rattle.std.proofs.Common.{◌≡◌, Result, Ok, Err, ℕ, ◌≤◌, Bool, true, false, List, length, Option, Some, None, refl, sym, ap, ◌∙◌, arith}
 use Rattle.std.specs.Prelude.{Contains, IfOk, bytes_eq, find, nat_le, if◌then◌else◌}
 use Rattle.std.specs.List.{position}
 use Rattle.std.specs.Result.{result_ok}

@@ -1,14 +1,14 @@
 -- The row that words are those of, and the request that it makes of them.
 use Rattle.std.proofs.Common.{◌≡◌, ℕ, zero, suc, ◌+◌, ◌≤◌, Bool, true, false, ◌&&◌, List, [], ◌∷◌, ◌++◌, length, take}
-use Rattle.std.proofs.Common.{drop, Option, Some, None, refl, sym, ap, subst, ◌∙◌, append_assoc, length-append, arith}
-use Rattle.std.specs.Prelude.{Contains, bytes_eq, cond, find, nat_le, not, if◌then◌else◌}
-use Rattle.std.specs.List.{AllByRecursion, list_all, position}
+use Rattle.std.proofs.Common.{drop, Option, Some, None, refl, sym, ap, ◌∙◌, length-append, arith}
+use Rattle.std.specs.Prelude.{Contains, bytes_eq, cond, find, not, if◌then◌else◌}
+use Rattle.std.specs.List.{list_all, position}
 use Rattle.std.proofs.lemmas.Bool.{le-leb}
 use Rattle.std.proofs.lemmas.List.{drop-drop, drop_at, length-drop, take-append-drop, length-take-le}
 use Rattle.std.proofs.lemmas.Slice.Eq.{bytes_eq-Decides}
 use Rattle.request_words.specs.Reading.{app_in, app_named, are_chosen, options_in, request_by, request_with, values_in, places_in}
 use Rattle.request_words.specs.Rows.{Row, app_word, is_app, option_word, size_of}
-use Rattle.request_words.specs.Words.{Given, IsSpelled, Means, Names, request_of, text_at, places_of, values_of, words_of}
+use Rattle.request_words.specs.Words.{Given, IsSpelled, Names, request_of, text_at, values_of, words_of}
 use Rattle.request_words.specs.declared.option.OptionName.{OptionName}
 use Rattle.request_words.specs.declared.request.AppName.{AppName}
 use Rattle.request_words.specs.declared.request.AppName.TheVariants.{Enum, Snaptr, Unaptr}

@@ -44,12 +44,12 @@ is_app Text = false
 abbrev pub size_of : Row → ℕ
 size_of row = length row.arguments + 1
 
--- at most one wanted list, at most one apex, which is of ENUM alone, and 1 to 64 files
+-- at most one wanted list, at most 8 apexes, which are of ENUM alone, and 1 to 64 files
 abbrev pub want_choice : Choice
 want_choice = record { option = Want; least = 0; most = 1; enum_alone = false }
 
-abbrev pub apex_choice : Choice
-apex_choice = record { option = Apex; least = 0; most = 1; enum_alone = true }
+abbrev pub apexes_choice : Choice
+apexes_choice = record { option = Apex; least = 0; most = 8; enum_alone = true }
 
 abbrev pub files_choice : Choice
 files_choice = record { option = Zones; least = 1; most = 64; enum_alone = false }
@@ -57,6 +57,6 @@ files_choice = record { option = Zones; least = 1; most = 64; enum_alone = false
 -- the table: `resolve APP STRING`, and `show`
 abbrev pub table : List Row
 table =
-    record { command = command.Resolve; word = codes "resolve"; arguments = App ∷ Text ∷ []; choices = want_choice ∷ apex_choice ∷ files_choice ∷ [] }
+    record { command = command.Resolve; word = codes "resolve"; arguments = App ∷ Text ∷ []; choices = want_choice ∷ apexes_choice ∷ files_choice ∷ [] }
     ∷ record { command = command.Show; word = codes "show"; arguments = []; choices = [] }
     ∷ []

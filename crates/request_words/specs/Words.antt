@@ -83,6 +83,10 @@ pub record ArePlaces (places : Places) (values : List ℕ) : Type 0 where
   pub cells : places.at ≡ padded 64 values
   pub most : length values ≤ 64
 
+-- the places that a row of cells has in front
+abbrev pub cells : Places → List ℕ
+cells places = take places.count places.at
+
 -- the request of a command, by the application and the places of each option's values: of `resolve` the string is word 2
 abbrev pub request_of : Command → AppName → (OptionName → List ℕ) → Request
 request_of command.Resolve app values =
@@ -91,7 +95,7 @@ request_of command.Resolve app values =
       app = app;
       string = 2;
       want = first_of (values Want);
-      apex = first_of (values Apex);
+      apexes = places_from (values Apex);
       origin = Files (places_from (values Zones));
     })
 request_of command.Show app values = request.Show

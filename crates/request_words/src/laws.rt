@@ -6,6 +6,8 @@ ghost use Rattle.request_words.specs.Words.{ArePlaces, Given, IsSpelled, Means, 
 ghost use Rattle.request_words.specs.declared.option.Choice.{Choice};
 ghost use Rattle.request_words.specs.declared.request.AppName.{AppName};
 ghost use Rattle.request_words.specs.declared.request.Request.{Request};
+ghost use Rattle.request_words.specs.declared.request.Request.TheVariants.{Resolve};
+ghost use Rattle.request_words.specs.declared.request.Resolution.{Resolution};
 
 /// Words mean one request at most.
 pub fn one_request()
@@ -21,4 +23,9 @@ pub fn all_values()
     ensures repeated { (row : Row) (words : List (List ℕ)) (app : AppName) (given : List Given) (choice : Choice)
         → IsSpelled row words app given → Contains row.choices choice → choice.most ≤ 64
         → ArePlaces (places_from (values_of row given choice.option)) (values_of row given choice.option) }
+{}
+
+/// A string is resolved under at most 8 apexes.
+pub fn few_apexes()
+    ensures { (words : List (List ℕ)) (asked : Resolution) → Means words (Resolve asked) → asked.apexes.count ≤ 8 }
 {}

@@ -8,7 +8,7 @@ mod request;
 mod row;
 mod words;
 
-pub use laws::{all_values, one_request};
+pub use laws::{all_values, few_apexes, one_request};
 pub use places::Places;
 pub use request::{AppName, Origin, Request, Resolution};
 pub use words::{Usage, read_words, text_at};

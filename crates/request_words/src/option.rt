@@ -9,7 +9,7 @@ use crate::request::AppName;
 pub(crate) enum OptionName {
     /// `--want LIST`: which services are wanted.
     Want,
-    /// `--apex NAME`: the domain that numbers stand under.
+    /// `--apex NAME`: a domain that numbers stand under.
     Apex,
     /// `--zones FILE`: a zone file.
     Zones,

@@ -1,8 +1,8 @@
 //! Places of words.
-ghost use Rattle.std.specs.Prelude.{◌≡◌, ◌+◌, ◌≤◌, ◌<◌, ◌^◌, length, take, string_bytes};
+ghost use Rattle.std.specs.Prelude.{◌≡◌, ◌+◌, ◌≤◌, ◌<◌, ◌^◌, length, string_bytes};
 ghost use Rattle.request_words.specs.Reading.{places_in, with_place, with_value};
 ghost use Rattle.request_words.specs.Rows.{option_word};
-ghost use Rattle.request_words.specs.Words.{first_of, places_from, texts_of};
+ghost use Rattle.request_words.specs.Words.{cells, first_of, places_from, texts_of};
 
 use crate::option::OptionName;
 use crate::words::is_word;
@@ -17,7 +17,7 @@ pub struct Places {
 impl Places {
     /// The places in their order.
     pub fn as_slice(&self) -> &[usize]
-        ensures value { result.now ≡ take self.now.count self.now.at }
+        ensures value { result.now ≡ cells self.now }
         ensures few { length result.now ≤ 64 }
     {
         &self.at[..self.count.min(self.at.len())]

@@ -25,7 +25,7 @@ pub struct Resolution {
     pub app: AppName,
     pub string: usize,
     pub want: Option<usize>,
-    pub apex: Option<usize>,
+    pub apexes: Places,
     pub origin: Origin,
 }
 

@@ -58,7 +58,7 @@ impl Row {
     }
 }
 
-// At most one wanted list, at most one apex, and 1 to 64 files.
+// At most one wanted list, at most 8 apexes, and 1 to 64 files.
 const WANT: Choice = Choice {
     option: OptionName::Want,
     least: 0,
@@ -66,10 +66,10 @@ const WANT: Choice = Choice {
     enum_alone: false,
 };
 
-const APEX: Choice = Choice {
+const APEXES: Choice = Choice {
     option: OptionName::Apex,
     least: 0,
-    most: 1,
+    most: 8,
     enum_alone: true,
 };
 
@@ -89,7 +89,7 @@ pub(crate) fn table() -> &'static [Row]
             command: Command::Resolve,
             word: b"resolve",
             arguments: &[Argument::App, Argument::Text],
-            choices: &[WANT, APEX, FILES],
+            choices: &[WANT, APEXES, FILES],
         },
         Row {
             command: Command::Show,

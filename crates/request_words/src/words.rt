@@ -92,7 +92,7 @@ fn request_of(command: Command, app: AppName, options: &[String], place: usize) 
             app,
             string: 2,
             want: place_of(options, OptionName::Want, place),
-            apex: place_of(options, OptionName::Apex, place),
+            apexes: places_of(options, OptionName::Apex, place),
             origin: Origin::Files(places_of(options, OptionName::Zones, place)),
         }),
         Command::Show => Request::Show,

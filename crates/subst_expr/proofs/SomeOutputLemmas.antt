@@ -83,33 +83,33 @@ light_or_heavy : (n : ℕ) → (n ≤ 512) ⊎ (512 < n)
 light_or_heavy n = grind arith
 
 -- well formed, or with a fault
-abbrev Told : List ℕ → Type 0
-Told text = IsWellFormed text ⊎ ((fault : RegexpFault) × (fault ≢ Memory) × IsRegexpFault text fault)
+abbrev HasVerdict : List ℕ → Type 0
+HasVerdict text = IsWellFormed text ⊎ ((fault : RegexpFault) × (fault ≢ Memory) × IsRegexpFault text fault)
 
 module _ (text : List ℕ) (s : Subst) (split : Splits text (Ok s)) where
-  with_tree : (t : Tree) → Reads s.ere t → weight t ≤ 512 → Told text
+  with_tree : (t : Tree) → Reads s.ere t → weight t ≤ 512 → HasVerdict text
   with_tree t reads light = by (missing_from (groups t) false s.repl_at s.repl) refl
     where
       at : (place : Option ℕ) → missing_from (groups t) false s.repl_at s.repl ≡ place → IsFirstMissing t s place
       at place e = missing text s t (groups t) s.repl_at s.repl place split refl refl refl (sym e)
 
-      by : (place : Option ℕ) → missing_from (groups t) false s.repl_at s.repl ≡ place → Told text
+      by : (place : Option ℕ) → missing_from (groups t) false s.repl_at s.repl ≡ place → HasVerdict text
       by None e = inl (s, t, (record { splits = split; reads = reads; light = light }, at None e))
       by (Some place) e = inr (NoGroup place, (λ f. cc), (s, t, record { splits = split; reads = reads; light = light }, at (Some place) e))
 
-  with_weight : (t : Tree) → Reads s.ere t → (weight t ≤ 512) ⊎ (512 < weight t) → Told text
+  with_weight : (t : Tree) → Reads s.ere t → (weight t ≤ 512) ⊎ (512 < weight t) → HasVerdict text
   with_weight t reads (inl light) = with_tree t reads light
   with_weight t reads (inr heavy) =
       inr (Ere (TooHeavy (min (weight t) 1_000_000)), (λ f. cc), ((λ f. cc), s, split, (t, reads, heavy, refl)))
 
-  with_split : ReadsOrBreaks s.ere → Told text
+  with_split : ReadsOrBreaks s.ere → HasVerdict text
   with_split (inl (t, reads)) = with_weight t reads (light_or_heavy (weight t))
   with_split (inr (at, why, is)) = inr (Ere (Broken at why), (λ f. cc), ((λ f. cc), s, split, is))
 
 pub formed_or_fault : FormedOrFault
 formed_or_fault text = by (splits text)
   where
-    by : (result : Result Subst SubstFault) × Splits text result → Told text
+    by : (result : Result Subst SubstFault) × Splits text result → HasVerdict text
     by (Ok s, split) = with_split text s split (reads_or_breaks s.ere)
     by (Err fault, split) = inr (Split fault, (λ f. cc), split)
 
@@ -144,6 +144,6 @@ output_or_none one law text aus = first (formed_or_fault text)
     broken : (fault : RegexpFault) → fault ≢ Memory → IsRegexpFault text fault → (bytes : List ℕ) → IsOutput text aus bytes → ⊥
     broken fault other is bytes (s, t, regexp, expands) = other (no_fault one text fault (s, t, regexp) is)
 
-    first : Told text → ((bytes : List ℕ) × IsOutput text aus bytes) ⊎ ((bytes : List ℕ) → IsOutput text aus bytes → ⊥)
+    first : HasVerdict text → ((bytes : List ℕ) × IsOutput text aus bytes) ⊎ ((bytes : List ℕ) → IsOutput text aus bytes → ⊥)
     first (inl formed) = second (output_or_unmatched law text aus formed)
     first (inr (fault, other, is)) = inr (broken fault other is)

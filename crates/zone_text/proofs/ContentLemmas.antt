@@ -28,7 +28,8 @@ use Rattle.zone_token.specs.Fields.{is_origin, name_in, name_or, name_at, bare_i
 use Rattle.zone_text.specs.Data.{number_at, time_at, quad_at, address_at, string_in, string_at, target_of, a_of}
 use Rattle.zone_text.specs.Data.{aaaa_of, soa_of, mx_of, strings_of, txt_of, srv_of, naptr_of, content_of}
 use Rattle.zone_text.specs.FieldsText.{fields_text}
-use Rattle.zone_text.specs.Laws.{type_of, IsAddress, IsString, IsSayable, FieldsAreReadAgain}
+use Rattle.dns_wire.specs.Ranges.{AreBytes, IsText, IsContent}
+use Rattle.zone_text.specs.Laws.{type_of, HasLine, FieldsAreReadAgain}
 use Rattle.zone_text.specs.declared.kind.Kind.{Kind}
 use Rattle.zone_token.specs.declared.fault.TextWhy.TheVariants.{BadName, BadData}
 use Rattle.zone_text.proofs.BareLemmas.{is_plain, PassesBare-plain, PassesBare-name, Begins-plain, Begins-name, no_sign}
@@ -129,36 +130,36 @@ address-some : (groups : List ℕ) → 0 < length groups → 0 < length (groups_
 address-some [] some = absurd (omega arith)
 address-some (n ∷ groups) some = omega (arith, hex-some n, length-append (hex n) (flat_map (λ group. codes ":" ++ hex group) groups))
 
-reads_quad : (address : List ℕ) → IsAddress 4 address → Reads (bare (ipv4_text address))
-reads_quad [] h = absurd (let size = h.size in omega arith)
-reads_quad (a ∷ []) h = absurd (let size = h.size in omega arith)
-reads_quad (a ∷ b ∷ []) h = absurd (let size = h.size in omega arith)
-reads_quad (a ∷ b ∷ c ∷ []) h = absurd (let size = h.size in omega arith)
+reads_quad : (address : List ℕ) → (length address ≡ 4) × AreBytes address → Reads (bare (ipv4_text address))
+reads_quad [] h = absurd (let size = h.0 in omega arith)
+reads_quad (a ∷ []) h = absurd (let size = h.0 in omega arith)
+reads_quad (a ∷ b ∷ []) h = absurd (let size = h.0 in omega arith)
+reads_quad (a ∷ b ∷ c ∷ []) h = absurd (let size = h.0 in omega arith)
 reads_quad (a ∷ b ∷ c ∷ d ∷ []) h =
-    let l = h.bytes in
+    let l = h.1 in
     let some = decimal-some d (let small = l.1.1.1.0 in omega arith) in
     reads_word (ipv4_text (a ∷ b ∷ c ∷ d ∷ []))
     (omega (arith, length-append (decimal a ++ codes "." ++ decimal b ++ codes "." ++ decimal c ++ codes ".") (decimal d)))
     (quad-plain a b c d l.0 l.1.0 l.1.1.0 l.1.1.1.0)
-reads_quad (a ∷ b ∷ c ∷ d ∷ e ∷ rest) h = absurd (let size = h.size in omega arith)
+reads_quad (a ∷ b ∷ c ∷ d ∷ e ∷ rest) h = absurd (let size = h.0 in omega arith)
 
-reads_groups : (address : List ℕ) → IsAddress 16 address → Reads (bare (groups_text (segments_of address)))
+reads_groups : (address : List ℕ) → (length address ≡ 16) × AreBytes address → Reads (bare (groups_text (segments_of address)))
 reads_groups address h =
     let groups = segments_of address in
-    let eight = length-segments 8 address h.size in
-    reads_word (groups_text groups) (address-some groups (omega arith)) (address-plain groups (segments-small 8 address h.size h.bytes))
+    let eight = length-segments 8 address h.0 in
+    reads_word (groups_text groups) (address-some groups (omega arith)) (address-plain groups (segments-small 8 address h.0 h.1))
 
-reads_strings : (texts : List (List ℕ)) → AllByRecursion IsString texts → AllByRecursion Reads (map between_quotes texts)
+reads_strings : (texts : List (List ℕ)) → AllByRecursion IsText texts → AllByRecursion Reads (map between_quotes texts)
 reads_strings [] all = tt
 reads_strings (text ∷ texts) all = (Reads-quoted text all.0.bytes, reads_strings texts all.1)
 
 -- the tokens of content are read again
-reads_tokens : (c : Content) → IsSayable c → AllByRecursion Reads (tokens_in c)
-reads_tokens (content.A address) h = (reads_quad address h, tt)
-reads_tokens (content.Ns server) h = (reads_name server h, tt)
-reads_tokens (content.Cname target) h = (reads_name target h, tt)
-reads_tokens (content.Soa soa) h =
-    let serial = h.serial in let refresh = h.refresh in let retry = h.retry in let expire = h.expire in let minimum = h.minimum in (
+reads_tokens : (c : Content) → IsContent c → HasLine c → AllByRecursion Reads (tokens_in c)
+reads_tokens (content.A address) h l = (reads_quad address h, tt)
+reads_tokens (content.Ns server) h l = (reads_name server h, tt)
+reads_tokens (content.Cname target) h l = (reads_name target h, tt)
+reads_tokens (content.Soa soa) h l =
+    let serial = h.serial in let refresh = l.refresh in let retry = l.retry in let expire = l.expire in let minimum = l.minimum in (
       reads_name soa.mname h.mname,
       (
         reads_name soa.rname h.rname,
@@ -174,32 +175,32 @@ reads_tokens (content.Soa soa) h =
         ),
       ),
     )
-reads_tokens (content.Ptr name) h = (reads_name name h, tt)
-reads_tokens (content.Mx preference exchange) h = (reads_number preference (let small = h.0 in omega arith), (reads_name exchange h.1, tt))
-reads_tokens (content.Txt texts) h = reads_strings texts h.1
-reads_tokens (content.Aaaa address) h = (reads_groups address h, tt)
-reads_tokens (content.Srv priority weight port target) h = (
+reads_tokens (content.Ptr name) h l = (reads_name name h, tt)
+reads_tokens (content.Mx preference exchange) h l = (reads_number preference (let small = h.0 in omega arith), (reads_name exchange h.1, tt))
+reads_tokens (content.Txt texts) h l = reads_strings texts h
+reads_tokens (content.Aaaa address) h l = (reads_groups address h, tt)
+reads_tokens (content.Srv priority weight port target) h l = (
   reads_number priority (let small = h.0 in omega arith),
   (
     reads_number weight (let small = h.1 in omega arith),
     (reads_number port (let small = h.2 in omega arith), (reads_name target h.3, tt)),
   ),
 )
-reads_tokens (content.Naptr rule) h = (
+reads_tokens (content.Naptr rule) h l = (
   reads_number rule.order (let small = h.order in omega arith),
   (
     reads_number rule.preference (let small = h.preference in omega arith),
     (
-      Reads-quoted rule.flags h.flags.bytes,
+      Reads-quoted rule.flags l.flags,
       (
-        Reads-quoted rule.services h.services.bytes,
-        (Reads-quoted rule.regexp h.regexp.bytes, (reads_name rule.replacement h.replacement, tt)),
+        Reads-quoted rule.services l.services,
+        (Reads-quoted rule.regexp l.regexp, (reads_name rule.replacement h.replacement, tt)),
       ),
     ),
   ),
 )
-reads_tokens (content.Opt options) h = absurd h
-reads_tokens (content.Raw bytes) h = absurd h
+reads_tokens (content.Opt options) h l = absurd l
+reads_tokens (content.Raw bytes) h l = absurd l
 
 -- what a token at a place stands for
 number_is : (most : ℕ) (fields : List Token) (place n : ℕ) → slice_get fields place ≡ Some (bare (decimal n))
@@ -214,9 +215,9 @@ unfolding time_at bare_at
 time_is fields place n is low = ap (λ o. ok_or (option_and_then time_of (bare_in o)) BadData) is ∙ ap (λ o. ok_or o BadData) (time_back n low)
 
 string_is : (fields : List Token) (place : ℕ) (text : List ℕ) → slice_get fields place ≡ Some (between_quotes text)
-    → IsString text → string_at fields place ≡ Ok text
+    → length text ≤ 255 → AreBytes text → string_at fields place ≡ Ok text
 unfolding string_at
-string_is fields place text is h = ap (λ o. ok_or (string_in o) BadData) is ∙ ap (λ o. ok_or o BadData) (string_of-quoted text h.bytes h.short)
+string_is fields place text is short bytes = ap (λ o. ok_or (string_in o) BadData) is ∙ ap (λ o. ok_or o BadData) (string_of-quoted text bytes short)
 
 name_is : (origin : Labels) (fields : List Token) (place : ℕ) (labels : List (List ℕ))
     → slice_get fields place ≡ Some (bare (text_of labels)) → IsName labels
@@ -274,74 +275,74 @@ naptr_is : (origin : Labels) (fields : List Token) (rule : Naptr) → number_at 
 unfolding naptr_of
 naptr_is origin fields rule a b c d e f end = rw (a, b, c, d, e, f, end) refl
 
-strings_are : (texts : List (List ℕ)) → AllByRecursion IsString texts → strings_of (map between_quotes texts) ≡ Ok texts
+strings_are : (texts : List (List ℕ)) → AllByRecursion IsText texts → strings_of (map between_quotes texts) ≡ Ok texts
 unfolding strings_of
 strings_are [] all = refl
 strings_are (text ∷ texts) all =
     strings-step (between_quotes text) (map between_quotes texts) text (ap (λ o. ok_or o BadData) (string_of-quoted text all.0.bytes all.0.short))
     ∙ ap (λ r. r >>= λ strings. Ok (text ∷ strings)) (strings_are texts all.1)
 
-txt_is : (texts : List (List ℕ)) → 0 < length texts → AllByRecursion IsString texts → txt_of (map between_quotes texts) ≡ Ok texts
+txt_is : (texts : List (List ℕ)) → 0 < length texts → AllByRecursion IsText texts → txt_of (map between_quotes texts) ≡ Ok texts
 unfolding txt_of
 txt_is [] some all = absurd (omega arith)
 txt_is (text ∷ texts) some all = strings_are (text ∷ texts) all
 
-quad_is : (address : List ℕ) → IsAddress 4 address → quad_of (ipv4_text address) ≡ Some address
-quad_is [] h = absurd (let size = h.size in omega arith)
-quad_is (a ∷ []) h = absurd (let size = h.size in omega arith)
-quad_is (a ∷ b ∷ []) h = absurd (let size = h.size in omega arith)
-quad_is (a ∷ b ∷ c ∷ []) h = absurd (let size = h.size in omega arith)
-quad_is (a ∷ b ∷ c ∷ d ∷ []) h = let l = h.bytes in quad_back a b c d l.0 l.1.0 l.1.1.0 l.1.1.1.0
-quad_is (a ∷ b ∷ c ∷ d ∷ e ∷ rest) h = absurd (let size = h.size in omega arith)
+quad_is : (address : List ℕ) → (length address ≡ 4) × AreBytes address → quad_of (ipv4_text address) ≡ Some address
+quad_is [] h = absurd (let size = h.0 in omega arith)
+quad_is (a ∷ []) h = absurd (let size = h.0 in omega arith)
+quad_is (a ∷ b ∷ []) h = absurd (let size = h.0 in omega arith)
+quad_is (a ∷ b ∷ c ∷ []) h = absurd (let size = h.0 in omega arith)
+quad_is (a ∷ b ∷ c ∷ d ∷ []) h = let l = h.1 in quad_back a b c d l.0 l.1.0 l.1.1.0 l.1.1.1.0
+quad_is (a ∷ b ∷ c ∷ d ∷ e ∷ rest) h = absurd (let size = h.0 in omega arith)
 
 -- the tokens of content stand for it
-tokens-say : (c : Content) (origin : Labels) → IsSayable c → IfSome (type_of c) (λ type. content_of type origin (tokens_in c) ≡ Ok c)
+tokens-say : (c : Content) (origin : Labels) → IsContent c → HasLine c → IfSome (type_of c) (λ type. content_of type origin (tokens_in c) ≡ Ok c)
 unfolding content_of
-tokens-say (content.A address) origin h = ap (λ r. r >>= λ a. Ok (content.A a)) (a_is _ address refl (quad_is address h) (ends_is _ 1 (omega arith)))
-tokens-say (content.Ns server) origin h =
+tokens-say (content.A address) origin h l = ap (λ r. r >>= λ a. Ok (content.A a)) (a_is _ address refl (quad_is address h) (ends_is _ 1 (omega arith)))
+tokens-say (content.Ns server) origin h l =
     ap (λ r. r >>= λ a. Ok (content.Ns a))
     (target_is origin _ server (name_is origin _ 0 server refl h) (ends_is _ 1 (omega arith)))
-tokens-say (content.Cname target) origin h =
+tokens-say (content.Cname target) origin h l =
     ap (λ r. r >>= λ a. Ok (content.Cname a))
     (target_is origin _ target (name_is origin _ 0 target refl h) (ends_is _ 1 (omega arith)))
-tokens-say (content.Soa soa) origin h =
+tokens-say (content.Soa soa) origin h l =
     let t = tokens_in (content.Soa soa) in
     let serial = h.serial in
     ap (λ r. r >>= λ a. Ok (content.Soa a))
     (soa_is origin t soa (name_is origin t 0 soa.mname refl h.mname) (name_is origin t 1 soa.rname refl h.rname)
     (number_is 4_294_967_295 t 2 soa.serial refl (omega arith) (omega arith))
-    (time_is t 3 soa.refresh refl h.refresh) (time_is t 4 soa.retry refl h.retry)
-    (time_is t 5 soa.expire refl h.expire) (time_is t 6 soa.minimum refl h.minimum) (ends_is t 7 (omega arith)))
-tokens-say (content.Ptr name) origin h =
+    (time_is t 3 soa.refresh refl l.refresh) (time_is t 4 soa.retry refl l.retry)
+    (time_is t 5 soa.expire refl l.expire) (time_is t 6 soa.minimum refl l.minimum) (ends_is t 7 (omega arith)))
+tokens-say (content.Ptr name) origin h l =
     ap (λ r. r >>= λ a. Ok (content.Ptr a))
     (target_is origin _ name (name_is origin _ 0 name refl h) (ends_is _ 1 (omega arith)))
-tokens-say (content.Mx preference exchange) origin h =
+tokens-say (content.Mx preference exchange) origin h l =
     let t = tokens_in (content.Mx preference exchange) in
     let small = h.0 in
     mx_is origin t preference exchange (number_is 65_535 t 0 preference refl (omega arith) (omega arith))
     (name_is origin t 1 exchange refl h.1) (ends_is t 2 (omega arith))
-tokens-say (content.Txt texts) origin h = ap (λ r. r >>= λ a. Ok (content.Txt a)) (txt_is texts h.0 h.1)
-tokens-say (content.Aaaa address) origin h =
+tokens-say (content.Txt texts) origin h l = ap (λ r. r >>= λ a. Ok (content.Txt a)) (txt_is texts l h)
+tokens-say (content.Aaaa address) origin h l =
     ap (λ r. r >>= λ a. Ok (content.Aaaa a))
-    (aaaa_is _ address refl (address_back address h.size h.bytes) (ends_is _ 1 (omega arith)))
-tokens-say (content.Srv priority weight port target) origin h =
+    (aaaa_is _ address refl (address_back address h.0 h.1) (ends_is _ 1 (omega arith)))
+tokens-say (content.Srv priority weight port target) origin h l =
     let t = tokens_in (content.Srv priority weight port target) in
     let one = h.0 in let two = h.1 in let three = h.2 in
     srv_is origin t priority weight port target (number_is 65_535 t 0 priority refl (omega arith) (omega arith))
     (number_is 65_535 t 1 weight refl (omega arith) (omega arith))
     (number_is 65_535 t 2 port refl (omega arith) (omega arith))
     (name_is origin t 3 target refl h.3) (ends_is t 4 (omega arith))
-tokens-say (content.Naptr rule) origin h =
+tokens-say (content.Naptr rule) origin h l =
     let t = tokens_in (content.Naptr rule) in
     let one = h.order in let two = h.preference in
     ap (λ r. r >>= λ a. Ok (content.Naptr a))
     (naptr_is origin t rule (number_is 65_535 t 0 rule.order refl (omega arith) (omega arith))
     (number_is 65_535 t 1 rule.preference refl (omega arith) (omega arith))
-    (string_is t 2 rule.flags refl h.flags) (string_is t 3 rule.services refl h.services)
-    (string_is t 4 rule.regexp refl h.regexp) (name_is origin t 5 rule.replacement refl h.replacement)
+    (string_is t 2 rule.flags refl h.flags l.flags) (string_is t 3 rule.services refl h.services l.services)
+    (string_is t 4 rule.regexp refl h.regexp l.regexp) (name_is origin t 5 rule.replacement refl h.replacement)
     (ends_is t 6 (omega arith)))
-tokens-say (content.Opt options) origin h = absurd h
-tokens-say (content.Raw bytes) origin h = absurd h
+tokens-say (content.Opt options) origin h l = absurd l
+tokens-say (content.Raw bytes) origin h l = absurd l
 
 in_turn : (c : Content) (origin : Labels) (type : Option Kind) → tokens_of (fields_text c) ≡ Ok (tokens_in c)
     → IfSome type (λ t. content_of t origin (tokens_in c) ≡ Ok c)
@@ -351,5 +352,5 @@ in_turn c origin (Some t) tokens say = ap (λ r. r >>= content_of t origin) toke
 
 -- the fields of content are read again as the content
 pub fields_again : FieldsAreReadAgain
-fields_again c origin h = in_turn c origin (type_of c) (ap tokens_of (fields-line c)
-    ∙ tokens_of-line_of (tokens_in c) (reads_tokens c h)) (tokens-say c origin h)
+fields_again c origin h l = in_turn c origin (type_of c) (ap tokens_of (fields-line c)
+    ∙ tokens_of-line_of (tokens_in c) (reads_tokens c h l)) (tokens-say c origin h l)

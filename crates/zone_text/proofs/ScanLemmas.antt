@@ -1,5 +1,5 @@
 use Rattle.std.proofs.Common.{◌≡◌, ◌∙◌, ℕ, zero, suc, subst, ◌+◌, ◌-◌, ◌<◌, ◌≤◌, List, [], ◌∷◌, ◌++◌, length, get_or}
-use Rattle.std.proofs.Common.{take, drop, true, false, Result, Ok, Err, refl, sym, ap, arith}
+use Rattle.std.proofs.Common.{take, drop, true, false, Result, Ok, refl, sym, ap, arith}
 use Rattle.std.proofs.lemmas.List.{drop_more, take_more, take_all, get_or-drop, length-drop}
 use Rattle.std.proofs.lemmas.Bool.{cond-true, cond-false}
 use Rattle.zone_token.specs.Entries.{beginning, after, ends_entry, ended_from, still_size}

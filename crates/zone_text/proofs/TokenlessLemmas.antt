@@ -1,11 +1,12 @@
-use Rattle.std.proofs.Common.{◌≡◌, ◌∙◌, ℕ, ◌+◌, ◌≤◌, List, [], ◌∷◌, length, false, Result, Ok, Err, refl, sym, ap, arith}
+use Rattle.std.proofs.Common.{◌≡◌, ◌∙◌, ℕ, ◌+◌, ◌≤◌, List, [], length, true, false, Result, Ok, Err, refl, sym, ap}
 use Rattle.std.specs.Prelude.{nat_lt}
 use Rattle.std.proofs.lemmas.List.{append-nil}
 use Rattle.std.proofs.lemmas.Bool.{cond-false, le-ltb}
 use Rattle.zone_token.specs.Bytes.{is_blank}
 use Rattle.zone_token.specs.Token.{Token}
-use Rattle.zone_token.specs.Tokens.{◌>>=◌, tokens_of}
+use Rattle.zone_token.specs.Tokens.{◌>>=◌, is_blank_entry, tokens_of}
 use Rattle.zone_token.specs.declared.fault.TextWhy.{TextWhy}
+use Rattle.zone_token.proofs.BlankLemmas.{blank_has_none}
 use Rattle.zone_text.specs.Meaning.{meaning_of, entry_of}
 use Rattle.zone_text.specs.Zone.{most_bytes, lines_in, unless_full, entry_within}
 use Rattle.zone_text.specs.Reading.{Read, read_after, on_line, step}
@@ -28,21 +29,18 @@ pub broken_tokens : (size number : ℕ) (standing : Standing) (entry : List ℕ)
     → tokens_of entry ≡ Err why → entry_within size number standing entry ≡ Err why
 broken_tokens size number standing entry why within is = sized size number standing entry (Err why) within is
 
-nothing_meant : (number : ℕ) (standing : Standing) (entry : List ℕ) (tokens : List Token) → length tokens ≡ 0
-    → (meaning_of standing (is_blank entry) tokens >>= unless_full number) ≡ Ok Nothing
+nothing_meant : (number : ℕ) (standing : Standing) (entry : List ℕ) → (meaning_of standing (is_blank entry) [] >>= unless_full number) ≡ Ok Nothing
 unfolding meaning_of
-nothing_meant number standing entry [] none = refl
-nothing_meant number standing entry (token ∷ tokens) none = absurd (omega arith)
+nothing_meant number standing entry = refl
 
--- an entry without a token goes by
-pub goes_by : (read next : Read) (entry : List ℕ) (tokens : List Token) → read.size + length entry ≤ most_bytes
-    → tokens_of entry ≡ Ok tokens → length tokens ≡ 0
+-- a blank entry goes by
+pub goes_by : (read next : Read) (entry : List ℕ) → read.size + length entry ≤ most_bytes → is_blank_entry entry ≡ true
     → next ≡ record read { line = read.line + lines_in entry; size = read.size + length entry }
     → step read entry ≡ Ok next
-goes_by read next entry tokens within is none passed =
+goes_by read next entry within blank passed =
     let means : entry_within (read.size + length entry) (length read.said) read.standing entry ≡ Ok Nothing =
-    sized (read.size + length entry) (length read.said) read.standing entry (Ok tokens) within is
-    ∙ nothing_meant (length read.said) read.standing entry tokens none in
+    sized (read.size + length entry) (length read.said) read.standing entry (Ok []) within (blank_has_none entry blank)
+    ∙ nothing_meant (length read.said) read.standing entry in
     ap (λ (o : Result Meaning TextWhy). on_line read.line o (λ m. Ok (read_after read entry m))) means
     ∙ ap (λ said. Ok
     (record {

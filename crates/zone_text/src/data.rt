@@ -1,7 +1,7 @@
 //! The data of the ten types.
 ghost use Rattle.std.specs.Prelude.{◌≡◌, ◌<◌, length, IsTrue, IfOk};
 ghost use Rattle.dns_wire.specs.Kinds.{is_whole};
-ghost use Rattle.zone_token.specs.Tokens.{Gives};
+ghost use Rattle.zone_token.specs.Tokens.{GivesOrMemory};
 ghost use Rattle.zone_text.specs.Data.{number_at, time_at, quad_at, address_at, string_at, target_of, a_of, aaaa_of};
 ghost use Rattle.zone_text.specs.Data.{soa_of, mx_of, strings_of, txt_of, srv_of, rule_of, content_of};
 ghost use Rattle.zone_token.specs.Texts.{string_of};
@@ -196,7 +196,7 @@ fn string_of(token: &Token) -> Result<Text255, TextWhy>
 
 // The character-strings of all tokens.
 fn read_strings(alloc: Global, fields: &[Token]) -> Result<Texts, TextWhy>
-    ensures { Gives result (strings_of fields.now) }
+    ensures { GivesOrMemory result (strings_of fields.now) }
 {
     let mut texts = Texts::new(alloc);
     for token in fields {
@@ -208,7 +208,7 @@ fn read_strings(alloc: Global, fields: &[Token]) -> Result<Texts, TextWhy>
 // One or more character-strings.
 #[tactic(auto, unfolding(crate::specs::Data::txt_of))]
 fn read_txt(alloc: Global, fields: &[Token]) -> Result<Texts, TextWhy>
-    ensures value { Gives result (txt_of fields.now) }
+    ensures value { GivesOrMemory result (txt_of fields.now) }
     ensures some { IfOk result (λ texts. 0 < length texts) }
 {
     if fields.is_empty() {
@@ -226,7 +226,7 @@ pub(crate) fn read_content(
     origin: &Name,
     fields: &[Token],
 ) -> Result<Content, TextWhy>
-    ensures value { Gives result (content_of kind origin.now fields.now) }
+    ensures value { GivesOrMemory result (content_of kind origin.now fields.now) }
     ensures whole { IfOk result (λ content. IsTrue (is_whole content)) }
 {
     match kind {

@@ -3,7 +3,6 @@ ghost use Rattle.std.specs.Prelude.{◌≡◌};
 ghost use Rattle.zone_text.specs.FaultWords.{text_fault};
 
 use enum_base::{Buffer, FaultWords};
-use itoa::Buffer as Digits;
 use zone_token::TextWhy;
 
 /// The first fault of a zone text.
@@ -19,9 +18,8 @@ impl TextFault {
     pub fn words(&self) -> FaultWords
         ensures { result ≡ text_fault self.now }
     {
-        let mut digits = Digits::new();
         let mut words = Buffer::new();
-        words.push_slice(digits.format(self.line).as_bytes());
+        words.push_number(self.line);
         words.push(b' ');
         words.push_slice(self.why.name().as_bytes());
         words

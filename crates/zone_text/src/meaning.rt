@@ -4,7 +4,7 @@ ghost use Rattle.std.specs.Option.{ok_or};
 ghost use Rattle.zone_token.specs.Bytes.{dollar};
 ghost use Rattle.zone_token.specs.Fields.{bare_at};
 ghost use Rattle.zone_token.specs.Times.{time_of};
-ghost use Rattle.zone_token.specs.Tokens.{Gives, tokens_of};
+ghost use Rattle.zone_token.specs.Tokens.{GivesOrMemory, tokens_of};
 ghost use Rattle.zone_text.specs.Meaning.{begins_with, origin_of, default_ttl_of, minimum_of, is_directive, is_whole_meaning};
 
 use crate::data::read_content;
@@ -129,7 +129,7 @@ impl Standing {
         place: usize,
     ) -> Result<Meaning, TextWhy>
         requires { place ≤ 1 }
-        ensures value { Gives result (stated (statement_of self.now owner.now tokens.now place)) }
+        ensures value { GivesOrMemory result (stated (statement_of self.now owner.now tokens.now place)) }
         ensures whole { IfOk result (λ meaning. IsTrue (is_whole_meaning meaning)) }
     {
         let head = Head::read(tokens, place)?;
@@ -147,7 +147,7 @@ impl Standing {
     // The record whose owner stands first, or is that of the record before.
     #[tactic(auto, unfolding(crate::specs::Meaning::record_of))]
     fn read_record(&self, alloc: Global, blank: bool, tokens: &[Token]) -> Result<Meaning, TextWhy>
-        ensures value { Gives result (stated (record_of self.now blank tokens.now)) }
+        ensures value { GivesOrMemory result (stated (record_of self.now blank tokens.now)) }
         ensures whole { IfOk result (λ meaning. IsTrue (is_whole_meaning meaning)) }
     {
         if blank {
@@ -179,7 +179,7 @@ impl Standing {
     // What tokens mean, after a blank at the beginning of the entry or not.
     #[tactic(auto, unfolding(crate::specs::Meaning::meaning_of))]
     fn read_meaning(&self, alloc: Global, blank: bool, tokens: &[Token]) -> Result<Meaning, TextWhy>
-        ensures value { Gives result (meaning_of self.now blank tokens.now) }
+        ensures value { GivesOrMemory result (meaning_of self.now blank tokens.now) }
         ensures whole { IfOk result (λ meaning. IsTrue (is_whole_meaning meaning)) }
     {
         let [token, ..] = tokens else {
@@ -200,7 +200,7 @@ impl Standing {
         entry: &[u8],
         tokens: &[Token],
     ) -> Result<Meaning, TextWhy>
-        ensures value { tokens_of entry.now ≡ Ok tokens.now → Gives result (entry_of self.now entry.now) }
+        ensures value { tokens_of entry.now ≡ Ok tokens.now → GivesOrMemory result (entry_of self.now entry.now) }
         ensures whole { IfOk result (λ meaning. IsTrue (is_whole_meaning meaning)) }
     {
         self.read_meaning(alloc, is_blank(entry), tokens)

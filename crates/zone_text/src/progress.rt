@@ -13,7 +13,7 @@ use crate::meaning::{Meaning, Standing, Statement};
 use dns_name::Name;
 use dns_wire::{Record, Records};
 use std::alloc::Global;
-use zone_token::{TextWhy, Token, read_tokens};
+use zone_token::{TextWhy, Token, is_blank_entry, read_tokens};
 
 /// The most bytes of a text: 64 MiB.
 pub(crate) const MOST_BYTES: usize = 67_108_864;
@@ -149,7 +149,7 @@ impl Progress {
         Ok(())
     }
 
-    // One entry more, or why it is broken. One without a token only goes by.
+    // One entry more, or why it is broken. A blank one only goes by.
     fn try_read(&mut self, alloc: Global, entry: &[u8]) -> Result<(), TextWhy>
         ensures ok { OnOk result (step (seen self.old) entry.now ≡ Ok (seen self.new)) }
         ensures err { IfErr result (λ why. why ≢ Memory
@@ -158,11 +158,11 @@ impl Progress {
         if entry.len() > MOST_BYTES - self.size {
             return Err(TextWhy::TooLarge);
         }
-        let tokens = read_tokens(alloc, entry)?;
-        if tokens.as_slice().is_empty() {
+        if is_blank_entry(entry) {
             self.pass(entry);
             return Ok(());
         }
+        let tokens = read_tokens(alloc, entry)?;
         self.read_said(alloc, entry, tokens.as_slice())
     }
 

@@ -2,7 +2,7 @@
 ghost use Rattle.std.specs.Prelude.{◌≡◌, ◌≢◌, ◌++◌, ◌≤◌, [], length, take, drop, ℕ, List, Some, None, IfOk, IfErr, OnOk};
 ghost use Rattle.zone_token.specs.declared.fault.TextWhy.{TextWhy as Why};
 ghost use Rattle.zone_token.specs.declared.fault.TextWhy.TheVariants.{Memory};
-ghost use Rattle.zone_text.specs.declared.fault.TextFault.{TextFault as Told};
+ghost use Rattle.zone_text.specs.declared.fault.TextFault.{TextFault as Fault};
 ghost use Rattle.zone_text.specs.Zone.{most_bytes, ZoneSays, ZoneBreaks, BreaksSoFar};
 ghost use Rattle.std.specs.Prelude.{Ok, Err};
 ghost use Rattle.dns_name.specs.Name.{Labels};
@@ -76,7 +76,7 @@ impl ZoneReader {
         ensures sound { OnOk result ((line : ℕ) (why : Why) → BreaksSoFar (self.old.text ++ piece.now) self.old.origin line why → ⊥) }
         ensures broken { self.old.fault ≡ None
             → IfErr result (λ fault. fault.why ≢ Memory → BreaksSoFar (self.old.text ++ piece.now) self.old.origin fault.line fault.why) }
-        ensures told { (fault : Told) → self.old.fault ≡ Some fault → result ≡ Err fault }
+        ensures told { (fault : Fault) → self.old.fault ≡ Some fault → result ≡ Err fault }
         ensures kept { IfErr result (λ fault. self.new.fault ≡ Some fault) }
     {
         if let Some(fault) = self.fault {
@@ -113,7 +113,7 @@ impl ZoneReader {
         ensures says { IfOk result (λ records. ZoneSays self.text self.origin records) }
         ensures breaks { self.fault ≡ None
             → IfErr result (λ fault. fault.why ≢ Memory → ZoneBreaks self.text self.origin fault.line fault.why) }
-        ensures told { (fault : Told) → self.fault ≡ Some fault → result ≡ Err fault }
+        ensures told { (fault : Fault) → self.fault ≡ Some fault → result ≡ Err fault }
     {
         if let Some(fault) = self.fault {
             return Err(fault);

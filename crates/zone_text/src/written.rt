@@ -10,7 +10,6 @@ ghost use Rattle.zone_text.specs.Laws.{type_of};
 use dns_name::Name;
 use dns_wire::{Content, Soa};
 use enum_base::{Buffer, Bytes, MemoryFault, Text255};
-use itoa::Buffer as Digits;
 use rdata_field::quoted;
 use std::net::Ipv6Addr;
 
@@ -54,9 +53,8 @@ fn push_number(text: &mut FieldsText, mark: &[u8], number: u32)
     ensures value { text.new ≡ text.old ++ mark.now ++ decimal number }
     ensures size { length text.new ≤ length text.old + 11 }
 {
-    let mut digits = Digits::new();
     text.push_slice(mark);
-    text.push_slice(digits.format(number).as_bytes());
+    text.push_number(number);
 }
 
 // Appends a name after a mark of at most one byte.

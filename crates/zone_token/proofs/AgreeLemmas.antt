@@ -1,13 +1,13 @@
-use Rattle.std.proofs.Common.{◌≡◌, ◌∙◌, ℕ, zero, suc, ◌+◌, ◌-◌, ◌<◌, ◌≤◌, List, [], ◌∷◌, ◌++◌, length, take, drop, Bool}
+use Rattle.std.proofs.Common.{◌≡◌, ◌∙◌, ℕ, suc, ◌+◌, ◌-◌, ◌≤◌, List, [], ◌∷◌, ◌++◌, length, take, drop, Bool}
 use Rattle.std.proofs.Common.{true, false, not, Some, None, Result, Ok, Err, cond, ltb, refl, sym, ap, subst, arith}
 use Rattle.std.proofs.Common.{append_assoc}
 use Rattle.std.specs.Prelude.{◌==◌, ◌||◌, ◌&&◌, if◌then◌else◌, unwrap_or}
 use Rattle.std.specs.List.{position_or_len}
 use Rattle.std.proofs.lemmas.List.{append-nil, take-append-drop}
-use Rattle.std.proofs.lemmas.Bool.{cond-true, cond-false, and_parts, eqb-true}
+use Rattle.std.proofs.lemmas.Bool.{cond-false, and_parts, eqb-true}
 use Rattle.std.proofs.lemmas.Bool.Decides.{nat_tests}
 use Rattle.zone_token.specs.Bytes.{line_feed, quote, opening, closing, semicolon, backslash, is_blank}
-use Rattle.zone_token.specs.Entries.{after, part_after, inside_after, ends_entry, is_quoted, last_entry, entries_from}
+use Rattle.zone_token.specs.Entries.{after, ends_entry, is_quoted, last_entry, entries_from}
 use Rattle.zone_token.specs.Tokens.{◌>>=◌, ends_bare, is_bare, bare_from, is_in_quotes, quoted_from, comment_size, nothing, one, front_of}
 use Rattle.zone_token.specs.Laws.{plain, EntriesGoOn}
 use Rattle.zone_token.specs.declared.spot.Part.TheVariants.{Plain, Escaped, Quoted, QuotedEscaped, Comment}

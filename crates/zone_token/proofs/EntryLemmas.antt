@@ -1,11 +1,10 @@
-use Rattle.std.proofs.Common.{◌≡◌, ◌∙◌, ℕ, ◌<◌, List, [], ◌∷◌, ◌++◌, length, Bool, true, false, refl, sym, ap, inl, inr}
+use Rattle.std.proofs.Common.{◌≡◌, ◌∙◌, ℕ, ◌<◌, List, [], ◌∷◌, ◌++◌, length, true, refl, ap, inl, inr}
 use Rattle.std.proofs.Common.{subst, arith, append_assoc, length-append}
 use Rattle.std.specs.Prelude.{◌⊎◌, ⊤, ◌==◌, ◌||◌, not}
 use Rattle.std.specs.List.{flat_map}
-use Rattle.std.proofs.lemmas.List.{append-nil}
 use Rattle.std.proofs.lemmas.Bool.{cond_both, and_parts, eqb-true}
 use Rattle.zone_token.specs.Bytes.{line_feed}
-use Rattle.zone_token.specs.Entries.{beginning, after, ends_entry, is_quoted, last_entry, entries_from, entries_of}
+use Rattle.zone_token.specs.Entries.{beginning, after, ends_entry, is_quoted, entries_from, entries_of}
 use Rattle.zone_token.specs.declared.spot.Spot.{Spot}
 
 -- the bytes of entries

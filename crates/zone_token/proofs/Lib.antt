@@ -1,5 +1,6 @@
 pub mod AddressLemmas
 pub mod AgreeLemmas
+pub mod BlankLemmas
 pub mod CutLemmas
 pub mod EntryLemmas
 pub mod RunLemmas

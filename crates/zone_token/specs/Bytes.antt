@@ -1,7 +1,7 @@
 -- The bytes that zone texts are made of (RFC 1035, section 5.1).
-use Rattle.std.specs.Prelude.{ℕ, nat_le, List, [], ◌∷◌, length, position, unwrap_or, Bool, false, ◌&&◌, ◌||◌, ◌==◌, if◌then◌else◌, Option, Some, None, is_some}
-use Rattle.std.specs.Char.{is_ascii_digit}
-use Rattle.dns_name.specs.Text.{decimal_of}
+use Rattle.std.specs.Prelude.{ℕ, nat_le, List, [], ◌∷◌, length, position, unwrap_or, Bool, false, ◌&&◌, ◌||◌, ◌==◌, if◌then◌else◌}
+use Rattle.std.specs.Prelude.{Option, Some, None, is_some}
+pub use Rattle.enum_base.specs.Escapes.{backslash, escaped_byte}
 
 abbrev pub tab : ℕ
 tab = 9
@@ -33,9 +33,6 @@ semicolon = 59
 abbrev pub at_sign : ℕ
 at_sign = 64
 
-abbrev pub backslash : ℕ
-backslash = 92
-
 -- a line feed stands at the front
 abbrev pub is_line_end : List ℕ → Bool
 is_line_end [] = false
@@ -54,25 +51,11 @@ is_visible byte = nat_le 33 byte && nat_le byte 126
 abbrev pub is_quotable : ℕ → Bool
 is_quotable byte = byte == tab || (nat_le 32 byte && nat_le byte 126) || nat_le 128 byte
 
--- the byte of the decimal number whose first digit stands before these bytes, and how many bytes it takes beyond a
--- backslash: three digits of at most 255
-abbrev pub decimal_byte : ℕ → List ℕ → Option (ℕ × ℕ)
-decimal_byte hundreds [] = None
-decimal_byte hundreds (tens ∷ []) = None
-decimal_byte hundreds (tens ∷ ones ∷ rest) =
-    if is_ascii_digit tens && is_ascii_digit ones && nat_le (decimal_of hundreds tens ones) 255
-    then Some (decimal_of hundreds tens ones, 3) else None
-
--- the byte that a backslash and these bytes stand for, and how many it takes beyond the backslash
-abbrev pub escaped_byte : List ℕ → Option (ℕ × ℕ)
-escaped_byte [] = None
-escaped_byte (byte ∷ rest) = if is_ascii_digit byte then decimal_byte byte rest else Some (byte, 1)
-
 -- what stands after a backslash begins a well-formed escape
 abbrev pub is_escape : List ℕ → Bool
 is_escape text = is_some (escaped_byte text)
 
--- the byte that a text stands for at its front, and how many bytes it takes beyond the first
+-- the byte that a text stands for at its front, and how many bytes it takes after the first
 abbrev pub first_byte : List ℕ → Option (ℕ × ℕ)
 first_byte [] = None
 first_byte (byte ∷ rest) = if byte == backslash then escaped_byte rest else Some (byte, 0)

@@ -10,9 +10,9 @@ use Rattle.zone_token.specs.declared.fault.TextWhy.{TextWhy}
 use Rattle.zone_token.specs.declared.fault.TextWhy.TheVariants.{BadToken, OpenQuote, OpenParen, Memory}
 
 -- what was read is what a definition gives, unless memory was wanting
-abbrev pub Gives : {A : Type 0} → Result A TextWhy → Result A TextWhy → Type 0
-Gives (Ok x) read = read ≡ Ok x
-Gives (Err why) read = why ≢ Memory → read ≡ Err why
+abbrev pub GivesOrMemory : {A : Type 0} → Result A TextWhy → Result A TextWhy → Type 0
+GivesOrMemory (Ok x) read = read ≡ Ok x
+GivesOrMemory (Err why) read = why ≢ Memory → read ≡ Err why
 
 infixl 10 ◌>>=◌
 abbrev pub ◌>>=◌ : {A B : Type 0} → Result A TextWhy → (A → Result B TextWhy) → Result B TextWhy
@@ -98,3 +98,10 @@ tokens_from zero inside (byte ∷ rest) = do
 -- the tokens of an entry, or its first lexical fault
 unfoldable pub tokens_of : List ℕ → Result (List Token) TextWhy
 tokens_of entry = tokens_from 0 false entry
+
+-- an entry that is blank but for a comment that ends it (RFC 1035, 5.1: `<blank>[<comment>]`); a comment ends with its line
+abbrev pub is_blank_entry : List ℕ → Bool
+is_blank_entry [] = true
+is_blank_entry (byte ∷ rest) =
+    if is_blank (byte ∷ rest) || byte == line_feed then is_blank_entry rest
+    else byte == semicolon && nat_le (length rest) (comment_size rest + 1)

@@ -37,11 +37,7 @@ fn read_name(origin: &Name, token: &Token) -> Result<Name, TextWhy>
 pub fn token_at<'a, 'b>(tokens: &'b [Token<'a>], place: usize) -> Option<&'b Token<'a>>
     ensures { MatchOption result (slice_get tokens.now place ≡ None) (λ token. slice_get tokens.now place ≡ Some token.now) }
 {
-    if place < tokens.len() {
-        Some(&tokens[place])
-    } else {
-        None
-    }
+    tokens.get(place)
 }
 
 /// The name at a place under an origin; `missing` where there is no token.

@@ -8,11 +8,11 @@ ghost use Rattle.zone_token.specs.Bytes.{size_until};
 pub enum Part {
     /// Outside quotes and comments.
     Plain,
-    /// Behind a backslash outside quotes and comments.
+    /// After a backslash outside quotes and comments.
     Escaped,
     /// Inside quotes.
     Quoted,
-    /// Behind a backslash inside quotes.
+    /// After a backslash inside quotes.
     QuotedEscaped,
     /// In a comment.
     Comment,

@@ -195,8 +195,8 @@ fn first_line_feed(text: &[u8]) -> Option<usize>
     text.iter().position(|byte| *byte == b'\n')
 }
 
-// How many bytes stand at the front of the text before its first line feed.
-fn comment_size(text: &[u8]) -> usize
+/// How many bytes stand at the front of the text before its first line feed.
+pub(crate) fn comment_size(text: &[u8]) -> usize
     ensures value { result ≡ comment_size text.now }
     ensures within { result ≤ length text.now }
 {

@@ -1,10 +1,12 @@
 //! The tokens of an entry.
-ghost use Rattle.std.specs.Prelude.{◌≡◌, ◌++◌, ◌<◌, ◌+◌, drop, length, OnOk};
+ghost use Rattle.std.specs.Prelude.{◌≡◌, ◌++◌, ◌<◌, ◌+◌, ◌||◌, nat_le, drop, length, OnOk};
 ghost use Rattle.std.specs.Option.{option_to_list};
-ghost use Rattle.zone_token.specs.Tokens.{Gives, tokens_of};
+ghost use Rattle.zone_token.specs.Bytes.{is_blank, is_line_end};
+ghost use Rattle.zone_token.specs.Tokens.{comment_size, is_blank_entry, GivesOrMemory, tokens_of};
 
+use crate::bytes::{is_blank, is_line_end};
 use crate::fault::TextWhy;
-use crate::token::{Front, Token};
+use crate::token::{Front, Token, comment_size};
 use enum_base::{List, MemoryFault};
 use std::alloc::Global;
 
@@ -28,7 +30,7 @@ pub(crate) fn rest_after(text: &[u8], more: usize) -> &[u8]
 
 /// The tokens of an entry, or its first lexical fault.
 pub fn read_tokens<'a>(alloc: Global, entry: &'a [u8]) -> Result<List<Token<'a>>, TextWhy>
-    ensures { Gives result (tokens_of entry.now) }
+    ensures { GivesOrMemory result (tokens_of entry.now) }
 {
     let mut tokens = List::new(alloc);
     let mut inside = false;
@@ -48,4 +50,33 @@ pub fn read_tokens<'a>(alloc: Global, entry: &'a [u8]) -> Result<List<Token<'a>>
     } else {
         Ok(tokens)
     }
+}
+
+// Whether a blank or a line feed stands at the front.
+fn is_space(text: &[u8]) -> bool
+    ensures { result ≡ (is_blank text.now || is_line_end text.now) }
+{
+    is_blank(text) || is_line_end(text)
+}
+
+// Whether a comment of these bytes ends its entry.
+fn is_last_comment(text: &[u8]) -> bool
+    ensures { result ≡ nat_le (length text.now) (comment_size text.now + 1) }
+{
+    text.len() <= comment_size(text) + 1
+}
+
+/// Whether the entry is blank, but for a comment that ends it (RFC 1035, 5.1: `<blank>[<comment>]`). It has no token then.
+/// No memory.
+pub fn is_blank_entry(entry: &[u8]) -> bool
+    ensures { result ≡ is_blank_entry entry.now }
+{
+    let mut rest = entry;
+    while let [byte, after @ ..] = rest {
+        if !is_space(rest) {
+            return *byte == b';' && is_last_comment(after);
+        }
+        rest = after;
+    }
+    true
 }

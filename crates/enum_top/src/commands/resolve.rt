@@ -1,15 +1,15 @@
 //! `resolve APP STRING`: the report of a walk (RFC 3402).
-ghost use Rattle.std.specs.Prelude.{◌≡◌, ◌≤◌, Err, IfOk, IsErrOf};
+ghost use Rattle.std.specs.Prelude.{◌≡◌, ◌≤◌, Err, IfOk, IsErrOf, length, map};
 ghost use Rattle.dns_name.specs.Name.{folded_labels};
 ghost use Rattle.ddds_walk.specs.Report.{Answers};
 ghost use Rattle.ddds_walk.specs.Rules.{client_of};
-ghost use Rattle.request_words.specs.Words.{texts_of};
+ghost use Rattle.request_words.specs.Words.{cells, texts_of};
 ghost use Rattle.service_field.specs.Wanted.{wanted_text};
 ghost use Rattle.zone_build.specs.Plain.{told};
 ghost use Rattle.enum_top.specs.Applications.{Asks};
 ghost use Rattle.enum_top.specs.Handling.{ReadsShelf};
 ghost use Rattle.enum_top.specs.Resolving.{Resolves, client_for, ending_of, files_of};
-ghost use Rattle.enum_top.specs.Running.{DoesOnShelf, inquiry_of};
+ghost use Rattle.enum_top.specs.Running.{DoesOnShelf, inquiry_of, listed};
 ghost use Rattle.enum_top.specs.Walking.{WalksOnce};
 ghost use Rattle.enum_top.specs.declared.cause.Cause.{Cause};
 
@@ -36,8 +36,9 @@ pub(crate) fn resolve_text<S: Shelf>(
     asked: &Resolution,
     shelf: &mut S,
 ) -> Result<Printed, Why>
+    requires few { asked.now.apexes.count ≤ 8 }
     ensures does { DoesOnShelf (Resolves (S.state shelf.old).files (texts_of words.now) asked.now) result }
-    ensures early { (cause : Cause) → Asks (texts_of words.now) asked.now.app asked.now.string asked.now.want asked.now.apex (Err cause)
+    ensures early { (cause : Cause) → Asks (texts_of words.now) asked.now.app asked.now.string asked.now.want (cells asked.now.apexes) (Err cause)
         → IsErrOf result (Why.Judged cause) }
     ensures shelf { ReadsShelf (S.state shelf.old) (S.state shelf.new) (IsErrOf result (Why.Outside Object.Shelf)) }
 {
@@ -47,7 +48,7 @@ pub(crate) fn resolve_text<S: Shelf>(
     };
     let zones = read_zones(alloc, words, files_of(&asked.origin), shelf)?;
     let report = report_over(alloc, asked.app, &inquiry, &zones)?;
-    let text = print_report(alloc, &report)?;
+    let text = print_report(alloc, &report, inquiry.keys.as_slice().len())?;
     Ok(Printed {
         ending: ending_of(&report),
         text,
@@ -70,10 +71,11 @@ fn report_over(
     inquiry: &Inquiry<'_>,
     zones: &ZoneSet,
 ) -> Result<Report, MemoryFault>
-    ensures { IfOk result (Answers (client_for app (inquiry_of inquiry.now)) (told zones.now) (folded_labels inquiry.now.key)) }
+    requires some { 1 ≤ length (listed inquiry.now.keys) }
+    ensures { IfOk result (Answers (client_for app (inquiry_of inquiry.now)) (told zones.now) (map folded_labels (listed inquiry.now.keys))) }
 {
     // No more domains than this are needed.
-    let limit = zones.rules_and_aliases() + 1;
+    let limit = zones.rules_and_aliases() + inquiry.keys.as_slice().len() as u32;
     let mut source = ZoneSource::new(zones);
     needed_bound();
     match report_of(alloc, app, inquiry, &mut source, limit) {
@@ -92,8 +94,9 @@ fn report_of<R: RuleSource>(
     source: &mut R,
     limit: u32,
 ) -> Result<Report, WalkFault>
-    requires { 1 ≤ limit }
-    ensures { WalksOnce (client_for app (inquiry_of inquiry.now)) (folded_labels inquiry.now.key) limit (R.state source.old) (R.state source.new) result }
+    requires limit { 1 ≤ limit }
+    requires some { 1 ≤ length (listed inquiry.now.keys) }
+    ensures { WalksOnce (client_for app (inquiry_of inquiry.now)) (map folded_labels (listed inquiry.now.keys)) limit (R.state source.old) (R.state source.new) result }
 {
     match app {
         AppName::Enum => walk_as(alloc, &EnumApp, inquiry, source, limit),
@@ -109,16 +112,17 @@ fn walk_as<P: DddsApp, R: RuleSource>(
     source: &mut R,
     limit: u32,
 ) -> Result<Report, WalkFault>
-    requires { 1 ≤ limit }
-    ensures { WalksOnce (client_of (P.meaning app.now) (wanted_text inquiry.now.wanted) inquiry.now.string) (folded_labels inquiry.now.key) limit
-        (R.state source.old) (R.state source.new) result }
+    requires limit { 1 ≤ limit }
+    requires some { 1 ≤ length (listed inquiry.now.keys) }
+    ensures { WalksOnce (client_of (P.meaning app.now) (wanted_text inquiry.now.wanted) inquiry.now.string)
+        (map folded_labels (listed inquiry.now.keys)) limit (R.state source.old) (R.state source.new) result }
 {
     walk(
         alloc,
         app,
         inquiry.wanted,
         &inquiry.string,
-        &inquiry.key,
+        inquiry.keys.as_slice(),
         source,
         limit,
     )

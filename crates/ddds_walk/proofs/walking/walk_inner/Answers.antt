@@ -5,7 +5,8 @@ pub returns-in_err-walker : goal.returns-in_err-walker
 returns-in_err-walker g c = record { walked = nothing_by _ _ c.args.limit _ c.from_residual.result c.from_residual.ensures.1 }
 
 pub loop-walker-init : goal.loop-walker-init
-loop-walker-init g c = going_at c.one_offer.ensures c.one_output.ensures.output _ c.args.key.now c.args.limit _ c.in_ok-walker.walker c.in_ok-walker.ensures
+loop-walker-init g c = going_at c.one_offer.ensures c.one_output.ensures.output _ c.args.keys.now c.args.limit _ c.in_ok-walker.walker c.requires.few
+    c.in_ok-walker.ensures
 
 pub loop-walker-preserved : goal.loop-walker-preserved
 loop-walker-preserved g c = going_by _ _ c.args.limit _ _ _ c.loop-walker.walker c.turn.new.self c.loop-walker.invariant

@@ -27,14 +27,14 @@ pub returns-in-Broken : goal.returns-in-Broken
 returns-in-Broken c =
     let text = c.args.text.now in
     sym (read-broken (while_fits c.loop-at.fits c.loop-at.name) c.loop-at.start c.loop-at.label c.loop-at.at text
-    c.loop-at-test.true (piece_met text c.loop-at.at _ Broken c.first.ensures.value c.in-Broken.is))
+    c.loop-at-test.true (piece_met text c.loop-at.at _ Broken c.loop-at-test.true c.first.ensures.value c.in-Broken.is))
     ∙ c.loop-at.invariant.same ∙ sym (from_start text _ _ c.eq.ensures c.as_slice.ensures c.if-eq.false)
 
 pub returns-in-Dot : goal.returns-in-Dot
 returns-in-Dot c =
     let text = c.args.text.now in
     sym (read-empty (while_fits c.loop-at.fits c.loop-at.name) c.loop-at.start c.loop-at.label c.loop-at.at text
-    c.loop-at-test.true (piece_met text c.loop-at.at _ Dot c.first.ensures.value c.in-Dot.is)
+    c.loop-at-test.true (piece_met text c.loop-at.at _ Dot c.loop-at-test.true c.first.ensures.value c.in-Dot.is)
     (c.is_empty.ensures.0 c.if-is_empty.true))
     ∙ c.loop-at.invariant.same ∙ sym (from_start text _ _ c.eq.ensures c.as_slice.ensures c.if-eq.false)
 
@@ -51,7 +51,7 @@ loop-at-preserved-in-Dot-2 c =
           (c.loop-at.at + 1) l (c.loop-at.at + 1)
           (pieces (drop (c.loop-at.at + 1) text))) c.new-label-in-Dot-2.ensures
           ∙ sym (read-dot (while_fits c.loop-at.fits c.loop-at.name) c.loop-at.start c.loop-at.label c.loop-at.at text
-          c.loop-at-test.true (piece_met text c.loop-at.at _ Dot c.first.ensures.value c.in-Dot.is) some)
+          c.loop-at-test.true (piece_met text c.loop-at.at _ Dot c.loop-at-test.true c.first.ensures.value c.in-Dot.is) some)
           ∙ c.loop-at.invariant.same;
       within = omega arith;
       most = omega (arith, ap length c.new-label-in-Dot-2.ensures);
@@ -62,7 +62,7 @@ returns-in-Byte c =
     let text = c.args.text.now in
     sym (read-full (while_fits c.loop-at.fits c.loop-at.name) c.loop-at.start c.loop-at.label c.loop-at.at text
     c.in-Byte.field-0 c.in-Byte.field-1 c.loop-at-test.true
-    (piece_met text c.loop-at.at _ (Byte c.in-Byte.field-0 c.in-Byte.field-1) c.first.ensures.value c.in-Byte.is)
+    (piece_met text c.loop-at.at _ (Byte c.in-Byte.field-0 c.in-Byte.field-1) c.loop-at-test.true c.first.ensures.value c.in-Byte.is)
     (c.is_full.ensures.0 c.if-is_full.true))
     ∙ c.loop-at.invariant.same ∙ sym (from_start text _ _ c.eq.ensures c.as_slice.ensures c.if-eq.false)
 
@@ -78,9 +78,9 @@ loop-at-preserved c =
           ∙ sym (read-byte (while_fits c.loop-at.fits c.loop-at.name) c.loop-at.start c.loop-at.label c.loop-at.at text
           c.in-Byte.field-0 c.in-Byte.field-1 c.loop-at-test.true
           (piece_met text c.loop-at.at _
-          (Byte c.in-Byte.field-0 c.in-Byte.field-1) c.first.ensures.value c.in-Byte.is) room)
+          (Byte c.in-Byte.field-0 c.in-Byte.field-1) c.loop-at-test.true c.first.ensures.value c.in-Byte.is) room)
           ∙ c.loop-at.invariant.same;
-      within = omega (arith, c.in-Byte.ensures.within, length-take (length text - c.loop-at.at) (drop c.loop-at.at text), length-drop c.loop-at.at text);
+      within = omega (arith, c.in-Byte.ensures.within, length-take (length text - (c.loop-at.at + 1)) (drop (c.loop-at.at + 1) text), length-drop (c.loop-at.at + 1) text);
       most = omega (arith, ap length c.push.ensures, length-append c.loop-at.label (c.in-Byte.field-0 ∷ []));
     }
 

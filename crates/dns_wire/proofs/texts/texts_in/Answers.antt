@@ -1,6 +1,6 @@
 use Rattle.dns_wire.specs.Contents.{TextsIn}
 use Rattle.dns_wire.specs.DecodeFaults.{of_rdata}
-use Rattle.dns_wire.specs.Outcome.{Told}
+use Rattle.dns_wire.specs.Outcome.{ToldAs}
 use Rattle.dns_wire.proofs.StepLemmas.{no_memory}
 use Rattle.dns_wire.proofs.TextLemmas.{texts-first, texts-more, texts-none, texts-cut, texts-end}
 use Rattle.dns_wire.proofs.texts.texts_in.Goals as goal
@@ -9,7 +9,7 @@ pub returns-in_err-first : goal.returns-in_err-first
 returns-in_err-first c = texts-none c.args.message.now c.args.from c.args.to c.in_err-first.field-0.0 _ c.in_err-first.ensures.text c.from_residual.ensures.1
 
 pub returns-in_err-push : goal.returns-in_err-push
-returns-in_err-push c = no_memory (Told of_rdata (TextsIn c.args.message.now c.args.from c.args.to)) _ c.from_residual-in_err-push.ensures.1
+returns-in_err-push c = no_memory (ToldAs of_rdata (TextsIn c.args.message.now c.args.from c.args.to)) _ c.from_residual-in_err-push.ensures.1
 
 pub texts-init : goal.texts-init
 texts-init c =
@@ -24,7 +24,7 @@ returns-in_err-text c =
     c.texts.invariant c.texts-test.true c.in_err-text.ensures.text c.from_residual-in_err-text.ensures.1
 
 pub returns-in_err-push-2 : goal.returns-in_err-push-2
-returns-in_err-push-2 c = no_memory (Told of_rdata (TextsIn c.args.message.now c.args.from c.args.to)) _ c.from_residual-in_err-push-2.ensures.1
+returns-in_err-push-2 c = no_memory (ToldAs of_rdata (TextsIn c.args.message.now c.args.from c.args.to)) _ c.from_residual-in_err-push-2.ensures.1
 
 pub texts-preserved : goal.texts-preserved
 texts-preserved c =

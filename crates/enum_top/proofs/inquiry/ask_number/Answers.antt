@@ -9,14 +9,14 @@ pub returns-in-Err-read_wanted : goal.returns-in-Err-read_wanted
 returns-in-Err-read_wanted c =
     no_want _ _ _ _ _ (c.as_bytes.ensures.value ∙ c.text_at.ensures) _ _ c.in-Ok.ensures.string c.in-Err-read_wanted.ensures
 
-pub returns-in-Err-read_key : goal.returns-in-Err-read_key
-returns-in-Err-read_key c =
+pub returns-in-Err-read_keys : goal.returns-in-Err-read_keys
+returns-in-Err-read_keys c =
     no_key _ _ _ _ _ (c.as_bytes.ensures.value
     ∙ c.text_at.ensures) _ _ _ _ c.in-Ok.ensures.string c.in-Ok.ensures.digits c.in-Ok-read_wanted.ensures
-    c.in-Err-read_key.ensures
+    c.in-Err-read_keys.ensures
 
 pub returns : goal.returns
 returns c =
     asked_whole _ _ _ _ _ (c.as_bytes.ensures.value
     ∙ c.text_at.ensures) _ _ _ _ _ c.in-Ok.ensures.string c.in-Ok.ensures.digits c.in-Ok-read_wanted.ensures
-    c.in-Ok-read_key.ensures c.aus.ensures.value
+    c.in-Ok-read_keys.ensures c.aus.ensures.value

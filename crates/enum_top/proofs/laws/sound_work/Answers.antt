@@ -1,3 +1,4 @@
+use Rattle.ddds_walk.specs.Report.{way_round}
 use Rattle.enum_top.proofs.OneMessageLemmas.{AreMessageLaws}
 use Rattle.enum_top.proofs.OneZonesLemmas.{AreLaws}
 use Rattle.enum_top.proofs.ReportLemmas.{one_text}
@@ -30,7 +31,7 @@ returns c =
     IsSound-work (record {
       one_zones = zones;
       some_zones = some;
-      one_text = one_text c.one_report.ensures c.one_loop.ensures;
+      one_text = one_text c.one_report.ensures (λ client zs keys one other. c.one_loop.ensures client zs keys (way_round one) (way_round other));
       some_report = c.some_report.ensures.apart;
       rules_apart = c.rules_are_apart.ensures;
       one_message = messages;

@@ -1,5 +1,5 @@
 use Rattle.request_words.proofs.OptionLemmas.{few_values, one_value, places_are}
-use Rattle.std.proofs.Common.{◌+◌, ◌≤◌, arith}
+use Rattle.std.proofs.Common.{◌+◌, arith}
 use Rattle.request_words.specs.Rows.{size_of}
 use Rattle.request_words.proofs.laws.all_values.Goals as goal
 
