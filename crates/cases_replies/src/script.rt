@@ -1,20 +1,21 @@
 //! A script under way: the zones.
-ghost use Rattle.std.specs.Prelude.{Contains, IfOk};
-ghost use Rattle.dns_wire.specs.declared.record.Record as spec;
-ghost use Rattle.zone_build.specs.Zone.{IsPlain};
 
 use crate::link::steps_text;
 use crate::query::{query_of, way_of};
+use cases_records::read_records;
 use cases_text::{bytes_of, digits_of, hex_of, line_of, text_of};
 use dns_name::Name;
-use dns_wire::{Records, decode};
+use dns_wire::decode;
 use enum_base::{Bytes, MemoryFault};
 use message_text::print_message;
 use responder::{Answered, answer};
 use std::alloc::Global;
-use zone_db::{Way, Zone, ZoneSet};
-use zone_text::{TextFault, ZoneReader};
+use zone_db::{Zone, ZoneSet};
 
+// How many bytes of a zone text are read at once.
+const PIECE: usize = 4096;
+
+/// The zones so far.
 #[derive(Drop)]
 pub struct Script {
     // The texts of the zones.
@@ -107,7 +108,7 @@ fn lines_of(alloc: Global, message: &[u8], most: usize) -> Result<String, Memory
 
 // Adds the zone of a text.
 fn add_zone(alloc: Global, zones: &mut ZoneSet, text: &[u8]) -> Result<&'static str, MemoryFault> {
-    let records = match read(alloc, text) {
+    let records = match read_records(alloc, Name::root(), text, PIECE) {
         Ok(records) => records,
         Err(_) => return Ok("no text"),
     };
@@ -118,21 +119,4 @@ fn add_zone(alloc: Global, zones: &mut ZoneSet, text: &[u8]) -> Result<&'static 
         },
         Err(_) => Ok("no zone"),
     }
-}
-
-fn read(alloc: Global, text: &[u8]) -> Result<Records, TextFault>
-    ensures plain { IfOk result (λ records. (one : spec.Record) → Contains records one → IsPlain one) }
-{
-    let mut reader = ZoneReader::new(alloc, Name::root());
-    if reader.feed(text).is_err() {
-        return records_of(reader);
-    }
-    records_of(reader)
-}
-
-#[tactic(auto, using(crate::proofs::PlainLemmas::plain))]
-fn records_of(reader: ZoneReader) -> Result<Records, TextFault>
-    ensures plain { IfOk result (λ records. (one : spec.Record) → Contains records one → IsPlain one) }
-{
-    reader.end()
 }

@@ -5,3 +5,4 @@ pub mod ReadyLemmas
 pub mod GlueLemmas
 pub mod SendLemmas
 pub mod SizeLemmas
+pub mod WholeLemmas

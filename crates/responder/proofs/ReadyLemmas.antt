@@ -73,7 +73,7 @@ tell_servers zone owner (one ∷ set) valid among each =
       tell_servers zone owner set valid (λ x d. among x (Contains-after one set x d)) each.1,
     )
 
-in_set : (records : List Record) (owner : Labels) (kind : ℕ) (set : List Record) (one : Record) → IsSet records owner kind set
+pub in_set : (records : List Record) (owner : Labels) (kind : ℕ) (set : List Record) (one : Record) → IsSet records owner kind set
     → Contains set one → Contains records one
 in_set records owner kind set one is c =
     subst (λ l. Contains l one) (sym is.parts)

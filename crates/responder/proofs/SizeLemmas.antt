@@ -23,7 +23,7 @@ use Rattle.zone_db.specs.declared.draft.Draft.{Draft}
 use Rattle.responder.specs.Sizes.{size, base_size}
 
 -- a record, whatever it is told of
-record_size : (one : Record) → length (record_wire one) ≡ length (wire_of one.owner) + 10 + length (rdata_of one.content)
+pub record_size : (one : Record) → length (record_wire one) ≡ length (wire_of one.owner) + 10 + length (rdata_of one.content)
 record_size one =
     let owner = wire_of one.owner in
     let kind = to_be_bytes w16 one.kind in
@@ -71,7 +71,7 @@ items_size (one ∷ records) =
     ap length (flat_map-cons record_wire one records) in
     omega (arith, whole, record_size one, length-append (record_wire one) (flat_map record_wire records), items_size records)
 
-both_size : (one other : List Record) → size (one ++ other) ≡ size one + size other
+pub both_size : (one other : List Record) → size (one ++ other) ≡ size one + size other
 both_size one other =
     ap length (flat_map-append record_wire one other) ∙ length-append (flat_map record_wire one) (flat_map record_wire other)
 

@@ -1,5 +1,5 @@
 //! Laws of replies.
-ghost use Rattle.responder.specs.Laws.{FoundIsReady, ZonesHaveOneReply};
+ghost use Rattle.responder.specs.Laws.{FoundIsReady, StreamsAreWhole, ZonesHaveOneReply};
 
 /// What is found in zones can be said: sets are not large, and hold what they were looked up for.
 pub fn found_is_ready()
@@ -9,4 +9,9 @@ pub fn found_is_ready()
 /// Zones have one reply to a query.
 pub fn one_reply()
     ensures { ZonesHaveOneReply }
+{}
+
+/// No reply on a stream is cut short: TC is clear.
+pub fn stream_is_whole()
+    ensures { StreamsAreWhole }
 {}
