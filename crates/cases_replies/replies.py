@@ -4,6 +4,7 @@
 It has its own zones, look-up and messages, and takes nothing from the program.
 """
 import os
+import re
 import struct
 
 HERE = os.path.dirname(os.path.abspath(__file__))
@@ -51,7 +52,7 @@ class Record:
     def text(self):
         data = self.fields()
         if self.kind == TXT:
-            data = " ".join('"<%d*%s>"' % (len(t), t[0]) if len(t) > 9 else '"%s"' % t for t in self.data)
+            data = " ".join('"%s"' % re.sub(r"(.)\1{9,}", lambda run: "<%d*%s>" % (len(run[0]), run[1]), t) for t in self.data)
         return "%s %d IN %s %s" % (self.owner, self.ttl, WORD[self.kind], data)
 
 

@@ -58,7 +58,7 @@ one_glue zone (one ∷ set) glue glue' (server, first, rest, tells, are, more, i
     one_addresses zone one.owner server first first' are (subst (λ s. AddressesOf zone one.owner s first') servers are') in
     is ∙ ap (λ x. x ++ rest) firsts ∙ ap (λ x. first' ++ x) (one_glue zone set rest rest' more more') ∙ sym is'
 
-referred : List Record → List Record → Added
+abbrev referred : List Record → List Record → Added
 referred set glue = record { code = 0; answers = []; authority = set; glue = glue }
 
 one_referral : (zones : List Zone) (name : Labels) (set : List Record) (added added' : Added) → Refers zones name set added
@@ -68,7 +68,7 @@ one_referral zones name set added added' (zone, glue, decides, is, e) (zone', gl
     let same : glue ≡ glue' = one_glue zone set glue glue' is (subst (λ (z : Zone). IsGlue z set glue') zones_same is') in
     e ∙ ap (referred set) same ∙ sym e'
 
-told_for : Record → Soa → Record
+abbrev told_for : Record → Soa → Record
 told_for start soa = record start { ttl = min start.ttl soa.minimum }
 
 one_negative : (start told told' : Record) → IsNegative start told → IsNegative start told' → told ≡ told'
@@ -79,10 +79,10 @@ one_negative start told told' (soa, tells, is) (soa', tells', is') =
 abbrev IsOneFurther : (Labels → Added → Type 0) → Type 0
 IsOneFurther Further = (target : Labels) (one other : Added) → Further target one → Further target other → one ≡ other
 
-aliased : Labels → List Record → Added → Added
+abbrev aliased : Labels → List Record → Added → Added
 aliased name set rest = record rest { answers = owned_by name set ++ rest.answers }
 
-negative_with : ℕ → Record → Added
+abbrev negative_with : ℕ → Record → Added
 negative_with code told = record (nothing code) { authority = told ∷ [] }
 
 one_added : (Further : Labels → Added → Type 0) (zones : List Zone) (name : Labels) (code : ℕ) (s : Shown) (added added' : Added)
@@ -131,15 +131,15 @@ one_coming zones (looks_up question) one other are f f' = one_found_draft zones 
 one_draft : (zones : List Zone) (query : List ℕ) (options options' : Option Record) (one other : Draft) → AreZones zones
     → IsDrafted zones query options one → IsDrafted zones query options' other → (options ≡ options') × (one ≡ other)
 one_draft zones query options options' one other are (inl (fault, b, o, e)) (inl (fault', b', o', e')) = (o ∙ sym o', e ∙ sym e')
-one_draft zones query options options' one other are (inl (fault, b, o, e)) (inr (m, s, more)) = absurd (not_both query m fault s b)
-one_draft zones query options options' one other are (inr (m, s, more)) (inl (fault, b, o, e)) = absurd (not_both query m fault s b)
+one_draft zones query options options' one other are (inl (fault, b, o, e)) (inr (m, s, o', c)) = absurd (not_both query m fault s b)
+one_draft zones query options options' one other are (inr (m, s, o', c)) (inl (fault, b, o, e)) = absurd (not_both query m fault s b)
 one_draft zones query options options' one other are (inr (m, s, o, c)) (inr (m', s', o', c')) =
     let same : m' ≡ m = one_message query m' m s' s in (
       o ∙ sym (o' ∙ ap options_heard same),
       one_coming zones (plan_of m) one other are c (subst (λ (x : Message). Comes zones (plan_of x) other) same c'),
     )
 
-wire_by : Header → List Question → List Record → List Record → List Record → List ℕ
+abbrev wire_by : Header → List Question → List Record → List Record → List Record → List ℕ
 wire_by header questions answers authority additional =
     header_wire header (record {
       questions = length questions;

@@ -1,6 +1,6 @@
 -- A reply on a stream is whole: what is said is small.
 use Rattle.std.proofs.Common.{◌≡◌, ℕ, zero, suc, ◌+◌, ◌*◌, ◌<◌, ◌≤◌, List, [], ◌∷◌, ◌++◌, length, inl, inr, refl, sym, ap, subst, ◌∙◌, arith, Result, Ok, Err, length-append}
-use Rattle.std.specs.Prelude.{Contains, Bool, true, false, not, if◌then◌else◌, Option, Some, None}
+use Rattle.std.specs.Prelude.{Contains, Bool, true, false, not, ◌==◌, if◌then◌else◌, Option, Some, None}
 use Rattle.std.specs.List.{AllByRecursion, flat_map}
 use Rattle.std.specs.Int.{w16, w32, to_be_bytes}
 use Rattle.std.proofs.lemmas.List.Concat.{flat_map-cons}
@@ -45,6 +45,9 @@ IsShort name = length (wire_of name) ≤ 255
 ok_is : {A F : Type 0} (one other : A) → ◌≡◌ {A = Result A F} (Ok one) (Ok other) → one ≡ other
 ok_is one other is = cc
 
+not_stopped : {A F : Type 0} (one : A) (fault : F) → ◌≡◌ {A = Result A F} (Ok one) (Err fault) → ⊥
+not_stopped one fault is = absurd cc
+
 -- the questions that a message spells have such names
 name_short : (bytes : List ℕ) (at : ℕ) (read : Labels × ℕ) → NameRead bytes at (Ok read) → IsShort read.0
 name_short bytes at read (inl (labels, next, name, is)) =
@@ -80,7 +83,7 @@ spelt_short bytes message spelt =
     elim end [
       | inl whole ↦ subst (λ (x : Message). AllByRecursion AsksShort x.questions) (sym (ok_is message _ whole.2))
           (questions_short bytes header.1.questions 12 questions is_questions)
-      | inr rest ↦ absurd (let is = rest.1 in cc)
+      | inr rest ↦ absurd (not_stopped message _ rest.1)
     ]
 
 -- records with such owners have no more bytes than they weigh
