@@ -56,7 +56,7 @@ exchanged old now way query done replies = record {
   recent = ap (λ (k : Kept). recent_after k.recent done) replies.kept;
   replied = first_of _ _ done replies.held;
   whole = second_of _ _ done replies.held;
-  silent = replies.silent;
+  silent = λ silent. (replies.silent silent).0;
 }
 
 -- .. and is told of what the struct holds before and after

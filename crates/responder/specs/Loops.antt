@@ -29,9 +29,10 @@ link_state link = record {
   faults = link.faults;
 }
 
--- an exchange fails at the listed calls, where nothing is said to the query, and where memory ran out, which is counted
+-- an exchange fails at the listed calls, where nothing is said to the query, and where memory ran out, which alone is counted
 pub record FailsListed {E : Type 0} (old new : MemoryLink) (way : Way) (query : List ℕ) (result : Result Unit E) : Type 0 where
-  pub listed : Contains old.failing (one_more old.kept.exchanges) → IsErr result
+  pub listed : Contains old.failing (one_more old.kept.exchanges) → IsErr result × (new.short ≡ old.short)
+  pub silent : IsReply old.zones query way None → IsErr result × (new.short ≡ old.short)
   pub err : OnErr result
       (Contains old.failing (one_more old.kept.exchanges) ⊎ (IsReply old.zones query way None ⊎ (new.short ≡ one_more old.short)))
   pub ok : OnOk result (new.short ≡ old.short)
@@ -45,9 +46,9 @@ pub record Replies {E : Type 0} (old new : MemoryLink) (way : Way) (query : List
   pub failing : new.failing ≡ old.failing
   pub kept : new.kept ≡ old.kept
   pub held : OnOk result (IsReply old.zones query way (Some new.held) × IsWhole way new.held)
-  pub listed : Contains old.failing old.kept.exchanges → IsErr result
+  pub listed : Contains old.failing old.kept.exchanges → IsErr result × (new.short ≡ old.short)
+  pub silent : IsReply old.zones query way None → IsErr result × (new.short ≡ old.short)
   pub err : OnErr result (Contains old.failing old.kept.exchanges ⊎ (IsReply old.zones query way None ⊎ (new.short ≡ one_more old.short)))
-  pub silent : IsReply old.zones query way None → IsErr result
   pub ok : OnOk result (new.short ≡ old.short)
   pub cause : HasCause old.faults new.faults result
   pub raised : OnErr result (new.faults ≡ one_more old.faults)

@@ -24,7 +24,9 @@ pub use draft::{Added, Draft};
 pub use exchanged::Exchanged;
 pub use fault::AddFault;
 pub use found::Found;
-pub use laws::{found_is_offered, found_is_readable, one_add_fault, one_answer, rules_are_apart};
+pub use laws::{
+    found_is_offered, found_is_readable, one_add_fault, one_answer, rules_are_apart, some_answer,
+};
 pub use link::{Counts, Link};
 pub use set::ZoneSet;
 pub use source::ZoneSource;
