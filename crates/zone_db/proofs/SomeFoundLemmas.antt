@@ -21,7 +21,7 @@ use Rattle.zone_db.proofs.FoundLemmas.{answered_found, found_of}
 use Rattle.zone_db.proofs.SeekLemmas.{alias_lacking, alias_met, highest_is, is_answered, is_unanswered, uncut_is}
 
 -- something that is lent
-lent : {X : Type 0} → X → Bor X
+abbrev lent : {X : Type 0} → X → Bor X
 lent x = record { ref_ptr = (0, 0); now = x }
 
 less_or_not : (n m : ℕ) → (n < m) ⊎ (m ≤ n)
@@ -285,7 +285,7 @@ without_alias zone source asked valid not = let least = some_least zone.records 
   where
     next : (least : Option ℕ) → IsLeastKind zone.records source asked least → HasAnswer zone source asked
     next None none =
-        let here = some_soa zone.records valid.order in (found.NoSet (lent here.0), (not, is_unanswered zone source asked none, here.1))
+        let here = some_soa zone.records valid.order in (found.NoSet (lent here.0), (not, is_unanswered zone source asked none, (here.1, here.2)))
     next (Some kind) h =
         let set = some_set zone.records source kind valid.order in
         (found.Set (lent set.0), (kind, not, is_answered zone source asked kind h, set.1))
@@ -308,7 +308,7 @@ found_in zone name asked valid inside = let cut = some_cut zone.records zone.ape
   where
     at : (source : Labels) → IsHighest zone.records zone.apex name None → IsSource (plain_of zone) name source → Either (Exists (plain_of zone) source) → HasFound zone name asked
     at source none is (inr not) =
-        let here = some_soa zone.records valid.order in (found.NoName (lent here.0), (source, uncut_is zone name none, is, not, here.1))
+        let here = some_soa zone.records valid.order in (found.NoName (lent here.0), (source, uncut_is zone name none, is, not, (here.1, here.2)))
     at source none is (inl exists) =
         let here = some_answer zone source asked valid in
         (here.0, answered_found zone name source asked here.0 (uncut_is zone name none) is exists here.1)
