@@ -1,13 +1,11 @@
 -- Zones have one reply to a query.
-use Rattle.std.proofs.Common.{◌≡◌, ◌⊎◌, inl, inr, ℕ, zero, suc, ◌≤◌, List, [], ◌∷◌, ◌++◌, length, Option, Some, None, refl, sym, ap, subst, ◌∙◌, arith}
-use Rattle.std.specs.Prelude.{Contains, min, Bool, true, false}
+use Rattle.std.proofs.Common.{◌≡◌, inl, inr, ℕ, zero, suc, List, [], ◌∷◌, ◌++◌, length, Option, Some, None, refl, sym, ap, subst, ◌∙◌, arith}
+use Rattle.std.specs.Prelude.{min, Bool, true, false}
 use Rattle.std.specs.List.{flat_map}
-use Rattle.dns_name.specs.Name.{folded_labels, IsBelow}
+use Rattle.dns_name.specs.Name.{folded_labels}
 use Rattle.naptr_data.specs.Zones.{Labels}
 use Rattle.dns_wire.specs.Encoding.{header_wire, question_wire, record_wire, message_wire}
 use Rattle.dns_wire.specs.Kinds.{a, aaaa}
-use Rattle.dns_wire.specs.Message.{Spells, Breaks}
-use Rattle.dns_wire.specs.declared.content.Content.{Content}
 use Rattle.dns_wire.specs.declared.content.Content.TheVariants as content
 use Rattle.dns_wire.specs.declared.content.Soa.{Soa}
 use Rattle.dns_wire.specs.declared.message.Header.{Header}
@@ -18,9 +16,9 @@ use Rattle.dns_wire.proofs.LawLemmas.{one_message, not_both}
 use Rattle.zone_build.specs.Zone.{Zone}
 use Rattle.zone_build.proofs.SizeLemmas.{one_set}
 use Rattle.zone_db.specs.Bits.{header_of}
-use Rattle.zone_db.specs.LookUp.{Decides, IsFound, Shown, shown}
+use Rattle.zone_db.specs.LookUp.{Decides, Shown, shown}
 use Rattle.zone_db.specs.LookUp.Shown.{outside, cut_of, alias_of, set_of, no_set, no_name}
-use Rattle.zone_db.specs.Replies.{Adds, AddressesOf, Comes, Finds, Follows, IsDrafted, IsGlue, IsMessageOf, IsNegative, IsPosted, IsReply, IsSent, IsSpoken, Plan, Refers, says, looks_up, bare, draft_with, is_authoritative, limit_of, nothing, options_heard, owned_by, plan_of, without_glue, without_records}
+use Rattle.zone_db.specs.Replies.{Adds, AddressesOf, Comes, Finds, Follows, IsDrafted, IsGlue, IsNegative, IsPosted, IsReply, IsSent, IsSpoken, Plan, Refers, says, looks_up, draft_with, is_authoritative, limit_of, nothing, options_heard, owned_by, plan_of, without_glue, without_records}
 use Rattle.zone_db.specs.Sets.{AreZones}
 use Rattle.zone_db.specs.declared.draft.Added.{Added}
 use Rattle.zone_db.specs.declared.draft.Draft.{Draft}

@@ -1,6 +1,6 @@
 -- What is said, as it is sent.
-use Rattle.std.proofs.Common.{◌≡◌, ℕ, ◌+◌, ◌*◌, ◌/◌, ◌%◌, ◌^◌, ◌<◌, ◌≤◌, List, [], ◌∷◌, ◌++◌, length, inl, inr, refl, sym, ap, subst, ◌∙◌, arith, Result, Ok, Err, OnOk}
-use Rattle.std.specs.Prelude.{Bool, true, false, Option, Some, None}
+use Rattle.std.proofs.Common.{◌≡◌, ℕ, ◌+◌, ◌*◌, ◌/◌, ◌%◌, ◌^◌, ◌<◌, ◌≤◌, List, [], ◌++◌, inl, inr, refl, ap, subst, ◌∙◌, arith, Result, Ok, Err, OnOk}
+use Rattle.std.specs.Prelude.{true, false, Option, Some, None}
 use Rattle.dns_wire.specs.Encoding.{message_wire}
 use Rattle.dns_wire.specs.Message.{Spells, Breaks}
 use Rattle.dns_wire.specs.declared.decode_fault.DecodeFault.{DecodeFault}
@@ -9,10 +9,9 @@ use Rattle.dns_wire.specs.declared.message.Message.{Message}
 use Rattle.dns_wire.specs.declared.record.Record.{Record}
 use Rattle.zone_build.specs.Zone.{Zone}
 use Rattle.zone_db.specs.Bits.{tc_of, opcode_of, rd_of, bit, header_of, u16_at}
-use Rattle.zone_db.specs.Replies.{Fits, IsMessageOf, IsPosted, IsSent, IsDrafted, IsSpoken, Comes, bare, limit_of, plan_of, options_heard, options_for, questions_of, reply_header, without_glue, without_records}
+use Rattle.zone_db.specs.Replies.{Fits, IsMessageOf, IsPosted, IsSent, IsDrafted, Comes, bare, limit_of, plan_of, options_heard, options_for, questions_of, reply_header, without_glue, without_records}
 use Rattle.zone_db.specs.declared.draft.Draft.{Draft}
 use Rattle.zone_db.specs.declared.way.Way.{Way}
-use Rattle.zone_db.specs.declared.way.Way.TheVariants.{Stream}
 use Rattle.responder.specs.Answering.{IsWhole, Posts, Sends, Speaks}
 use Rattle.responder.specs.Drafting.{IsSmall}
 use Rattle.responder.specs.Sizes.{size, base_size}

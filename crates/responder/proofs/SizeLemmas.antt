@@ -1,12 +1,12 @@
 -- How many bytes records have.
-use Rattle.std.proofs.Common.{◌≡◌, ℕ, ◌+◌, ◌<◌, ◌≤◌, List, [], ◌∷◌, ◌++◌, length, ap, ◌∙◌, refl, arith, length-append}
+use Rattle.std.proofs.Common.{◌≡◌, ◌+◌, ◌≤◌, List, [], ◌∷◌, ◌++◌, length, ap, ◌∙◌, refl, arith, length-append}
 use Rattle.std.proofs.Common.{Result, Ok, Err, IfOk, subst, sym}
 use Rattle.std.specs.List.{flat_map}
 use Rattle.std.proofs.lemmas.List.Concat.{flat_map-cons}
 use Rattle.std.proofs.lemmas.List.Sums.{sum_by-cons}
 use Rattle.std.proofs.lemmas.Grind.{flat_map-append}
 use Rattle.std.proofs.lemmas.Bool.{le-leb}
-use Rattle.std.specs.Prelude.{Bool, IsTrue, true, false, nat_le, ◌&&◌, Option, Some, None}
+use Rattle.std.specs.Prelude.{Bool, IsTrue, true, ◌&&◌, Option, Some, None}
 use Rattle.std.specs.Int.{w16, w32, to_be_bytes}
 use Rattle.dns_name.specs.Name.{wire_of}
 use Rattle.naptr_data.specs.Zones.{Labels}
@@ -18,7 +18,7 @@ use Rattle.dns_wire.specs.Counts.{is_counted, are_counted}
 use Rattle.dns_wire.specs.declared.message.Header.{Header}
 use Rattle.dns_wire.specs.declared.message.Message.{Message}
 use Rattle.dns_wire.specs.declared.question.Question.{Question}
-use Rattle.zone_db.specs.Replies.{owned_by, questions_of, options_for, without_glue, IsMessageOf}
+use Rattle.zone_db.specs.Replies.{owned_by, questions_of, options_for, IsMessageOf}
 use Rattle.zone_db.specs.declared.draft.Draft.{Draft}
 use Rattle.responder.specs.Sizes.{size, base_size}
 

@@ -1,20 +1,18 @@
 -- A reply on a stream is whole: what is said is small.
-use Rattle.std.proofs.Common.{◌≡◌, ℕ, zero, suc, ◌+◌, ◌*◌, ◌<◌, ◌≤◌, List, [], ◌∷◌, ◌++◌, length, inl, inr, refl, sym, ap, subst, ◌∙◌, arith, Result, Ok, Err, length-append}
+use Rattle.std.proofs.Common.{◌≡◌, ℕ, zero, suc, ◌+◌, ◌*◌, ◌≤◌, List, [], ◌∷◌, ◌++◌, length, inl, inr, sym, ap, subst, ◌∙◌, arith, Result, Ok, Err, length-append}
 use Rattle.std.specs.Prelude.{Contains, Bool, true, false, not, ◌==◌, if◌then◌else◌, Option, Some, None}
 use Rattle.std.specs.List.{AllByRecursion, flat_map}
 use Rattle.std.specs.Int.{w16, w32, to_be_bytes}
 use Rattle.std.proofs.lemmas.List.Concat.{flat_map-cons}
 use Rattle.std.proofs.lemmas.List.Sums.{sum_by-cons}
-use Rattle.enum_base.specs.Stages.{Then}
 use Rattle.dns_name.specs.Name.{IsName, wire_of, folded_labels}
 use Rattle.naptr_data.specs.Zones.{Labels}
 use Rattle.naptr_data.proofs.CutLemmas.{Contains-head, Contains-after}
 use Rattle.dns_wire.specs.Encoding.{question_wire, record_wire}
 use Rattle.dns_wire.specs.Kinds.{cname}
-use Rattle.dns_wire.specs.Message.{ItemsAt, MessageIs, NameRead, QuestionAt, Spells}
+use Rattle.dns_wire.specs.Message.{ItemsAt, NameRead, QuestionAt, Spells}
 use Rattle.dns_wire.specs.Ranges.{IsContent, IsRecord, IsSoa}
 use Rattle.dns_wire.specs.Rdata.{rdata_of, soa_rdata}
-use Rattle.dns_wire.specs.declared.content.Content.{Content}
 use Rattle.dns_wire.specs.declared.content.Content.TheVariants as content
 use Rattle.dns_wire.specs.declared.content.Soa.{Soa}
 use Rattle.dns_wire.specs.declared.message.Message.{Message}
@@ -24,7 +22,7 @@ use Rattle.dns_wire.proofs.StepLemmas.{then_value}
 use Rattle.zone_build.specs.Zone.{Zone, weight}
 use Rattle.zone_db.specs.Bits.{tc_of, header_of, opcode_of}
 use Rattle.zone_db.specs.LookUp.{IsFound, shown}
-use Rattle.zone_db.specs.Replies.{Adds, Comes, Finds, Follows, IsDrafted, IsNegative, IsReply, Plan, says, looks_up, bare, draft_with, is_authoritative, is_refused, nothing, options_for, options_of, owned_by, plan_of, plan_of_one, plan_of_questions, strays, version_of}
+use Rattle.zone_db.specs.Replies.{Adds, Comes, Finds, Follows, IsDrafted, IsNegative, IsReply, Plan, says, looks_up, bare, draft_with, is_authoritative, is_refused, options_for, options_of, owned_by, plan_of, plan_of_one, plan_of_questions, strays, version_of}
 use Rattle.zone_db.specs.Sets.{AreZones}
 use Rattle.zone_db.specs.declared.draft.Added.{Added}
 use Rattle.zone_db.specs.declared.draft.Draft.{Draft}
@@ -33,7 +31,7 @@ use Rattle.zone_db.specs.declared.found.Found.TheVariants as found
 use Rattle.zone_db.specs.declared.way.Way.TheVariants.{Stream}
 use Rattle.responder.specs.Drafting.{IsSmall, added_size}
 use Rattle.responder.specs.Laws.{AreInRange}
-use Rattle.responder.specs.Sizes.{size, base_size}
+use Rattle.responder.specs.Sizes.{size}
 use Rattle.responder.proofs.ReadyLemmas.{found_ready, in_set}
 use Rattle.responder.proofs.SendLemmas.{small_whole}
 use Rattle.responder.proofs.SizeLemmas.{both_size, owned_small, record_size}

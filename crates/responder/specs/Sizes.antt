@@ -1,5 +1,5 @@
 -- How many bytes replies have (RFC 1035, section 4.1), for private functions and laws.
-use Rattle.std.specs.Prelude.{◌≡◌, ℕ, ◌+◌, ◌<◌, ◌≤◌, List, length, Option, MatchOption}
+use Rattle.std.specs.Prelude.{◌≡◌, ℕ, ◌+◌, ◌<◌, List, length, Option, MatchOption}
 use Rattle.std.specs.List.{flat_map}
 use Rattle.dns_wire.specs.Encoding.{question_wire, record_wire}
 use Rattle.dns_wire.specs.declared.record.Record.{Record}

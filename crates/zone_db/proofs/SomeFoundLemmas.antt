@@ -1,5 +1,5 @@
 -- Zones show an answer for each name and kind.
-use Rattle.std.proofs.Common.{◌≡◌, ◌⊎◌, inl, inr, ℕ, ◌<◌, ◌≤◌, List, [], ◌∷◌, ◌++◌, length, Option, Some, None, Bor, refl, sym, ap, subst, ◌∙◌, arith, length-append}
+use Rattle.std.proofs.Common.{◌≡◌, ◌⊎◌, inl, inr, ℕ, ◌<◌, ◌≤◌, List, [], ◌∷◌, length, Option, Some, None, Bor, refl, sym, ap, subst, ◌∙◌, arith, length-append}
 use Rattle.std.specs.Prelude.{Contains}
 use Rattle.dns_name.specs.Name.{AreSame, IsBelow, folded_labels}
 use Rattle.naptr_data.specs.Zones.{Labels, Exists, IsSource, star}
@@ -66,9 +66,9 @@ some_deciding (zone ∷ zones) name apart =
             longest = λ z c b. elim (head_or_after zone zones z c) [
               | inl here ↦ inl here
               | inr after ↦ elim (d.longest z after b) [
-                  | inl same ↦ inr (subst (λ (y : Zone). length y.apex < length zone.apex) (sym same) less)
-                  | inr shorter' ↦ inr (omega (arith, shorter', less))
-                ]
+                | inl same ↦ inr (subst (λ (y : Zone). length y.apex < length zone.apex) (sym same) less)
+                | inr shorter' ↦ inr (omega (arith, shorter', less))
+              ]
             ];
           },
         )

@@ -2,11 +2,11 @@
 -- RFC 4592; RFC 6891, sections 6 and 7). The order of the refusals, the limits of a datagram, how many aliases are followed and the
 -- set that is given for all kinds are this project's own.
 use Rattle.std.specs.Prelude.{◌≡◌, ◌⊎◌, ℕ, zero, suc, ◌+◌, ◌*◌, ◌/◌, ◌%◌, ◌^◌, ◌≤◌, ◌==◌, ◌&&◌, ◌||◌, nat_le, nat_lt, min, max, List, [], ◌∷◌, ◌++◌, length, map, filter, find, Contains, Bool, true, false, not, if◌then◌else◌, Option, Some, None}
-use Rattle.std.specs.List.{flat_map, list_all}
+use Rattle.std.specs.List.{list_all}
 use Rattle.dns_name.specs.Name.{folded_labels, wire_of, IsBelow}
 use Rattle.naptr_data.specs.Zones.{Labels}
 use Rattle.dns_wire.specs.Encoding.{message_wire}
-use Rattle.dns_wire.specs.Kinds.{internet, a, ns, aaaa, opt}
+use Rattle.dns_wire.specs.Kinds.{internet, a, aaaa, opt}
 use Rattle.dns_wire.specs.Message.{Spells, Breaks}
 use Rattle.dns_wire.specs.declared.content.Content.TheVariants as content
 use Rattle.dns_wire.specs.declared.content.Soa.{Soa}

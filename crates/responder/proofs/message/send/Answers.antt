@@ -1,4 +1,4 @@
-use Rattle.std.proofs.Common.{◌≡◌, subst, sym, arith, Bor, Option, option_map}
+use Rattle.std.proofs.Common.{subst, sym, arith, Bor, Option, option_map}
 use Rattle.dns_wire.specs.declared.record.Record.{Record}
 use Rattle.zone_db.specs.Replies.{without_glue}
 use Rattle.zone_db.specs.declared.draft.Draft.{Draft}

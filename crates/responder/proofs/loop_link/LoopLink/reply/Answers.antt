@@ -1,4 +1,4 @@
-use Rattle.std.proofs.Common.{◌≡◌, Ok, sym, subst}
+use Rattle.std.proofs.Common.{Ok, sym, subst}
 use Rattle.std.specs.Prelude.{Contains}
 use Rattle.responder.specs.Answering.{Answers, AppendsReply}
 use Rattle.responder.specs.Loops.{MemoryLink, Replies}

@@ -1,5 +1,5 @@
 use Rattle.std.proofs.Common.{◌≡◌, ap, arith}
-use Rattle.enum_base.specs.Causes.{HasCause, one_more}
+use Rattle.enum_base.specs.Causes.{one_more}
 use Rattle.responder.specs.Loops.{MemoryLink}
 use Rattle.responder.proofs.loop_link.LoopLinkLink.aim.Goals as goal
 
