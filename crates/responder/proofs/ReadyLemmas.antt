@@ -78,7 +78,7 @@ in_set records owner kind set one is c =
     subst (λ l. Contains l one) (sym is.parts)
     (Contains-append_right is.before (set ++ is.after) one (Contains-append_left set is.after one c))
 
-valid_of : (zones : List Zone) (zone : Zone) → AreZones zones → Contains zones zone → IsValid zone
+pub valid_of : (zones : List Zone) (zone : Zone) → AreZones zones → Contains zones zone → IsValid zone
 valid_of zones zone are c = AllByRecursion-contains IsValid zones zone are.each c
 
 pub found_ready : (zones : List Zone) (name : Labels) (kind : ℕ) (f : Found) → AreZones zones → IsFound zones name kind f → IsReady f

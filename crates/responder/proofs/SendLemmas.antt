@@ -18,10 +18,10 @@ use Rattle.responder.specs.Sizes.{size, base_size}
 use Rattle.responder.proofs.SizeLemmas.{small_counted, message_size}
 
 -- what has more bytes does not fit
-not_fits : (limit : ℕ) (query : Header) (options : Option Record) (draft : Draft) → limit < base_size options draft + size draft.glue → ¬ Fits limit query options draft
+pub not_fits : (limit : ℕ) (query : Header) (options : Option Record) (draft : Draft) → limit < base_size options draft + size draft.glue → ¬ Fits limit query options draft
 not_fits limit query options draft more (message, parts, few) = absurd (omega (arith, more, few, message_size query options false draft message parts))
 
-fits : (limit : ℕ) (query : Header) (options : Option Record) (draft : Draft) (bytes : List ℕ) → base_size options draft + size draft.glue ≤ limit
+pub fits : (limit : ℕ) (query : Header) (options : Option Record) (draft : Draft) (bytes : List ℕ) → base_size options draft + size draft.glue ≤ limit
     → IsPosted query options false draft bytes → Fits limit query options draft
 fits limit query options draft bytes few posted =
     (posted.message, posted.parts, omega (arith, few, message_size query options false draft posted.message posted.parts))

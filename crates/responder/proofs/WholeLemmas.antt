@@ -32,6 +32,7 @@ use Rattle.zone_db.specs.declared.way.Way.TheVariants.{Stream}
 use Rattle.responder.specs.Drafting.{IsSmall, added_size}
 use Rattle.responder.specs.Laws.{AreInRange}
 use Rattle.responder.specs.Sizes.{size}
+use Rattle.responder.proofs.QuestionLemmas.{IsOfCodes, IsPlanOf, query_planned, spelt_questions}
 use Rattle.responder.proofs.ReadyLemmas.{found_ready, in_set}
 use Rattle.responder.proofs.SendLemmas.{small_whole}
 use Rattle.responder.proofs.SizeLemmas.{both_size, owned_small, record_size}
@@ -39,50 +40,6 @@ use Rattle.responder.proofs.SizeLemmas.{both_size, owned_small, record_size}
 -- a name fits a message
 abbrev pub IsShort : Labels → Type 0
 IsShort name = length (wire_of name) ≤ 255
-
-ok_is : {A F : Type 0} (one other : A) → ◌≡◌ {A = Result A F} (Ok one) (Ok other) → one ≡ other
-ok_is one other is = cc
-
-not_stopped : {A F : Type 0} (one : A) (fault : F) → ◌≡◌ {A = Result A F} (Ok one) (Err fault) → ⊥
-not_stopped one fault is = absurd cc
-
--- the questions that a message spells have such names
-name_short : (bytes : List ℕ) (at : ℕ) (read : Labels × ℕ) → NameRead bytes at (Ok read) → IsShort read.0
-name_short bytes at read (inl (labels, next, name, is)) =
-    subst (λ (x : Labels × ℕ). IsShort x.0) (sym (ok_is read (labels, next) is)) name.short
-name_short bytes at read (inr (fault, breaks, is)) = absurd cc
-
-question_short : (bytes : List ℕ) (at : ℕ) (read : Question × ℕ) → QuestionAt bytes at (Ok read) → IsShort read.0.name
-question_short bytes at read spelt =
-    let (name, is_name, more) = then_value _ _ read spelt in
-    let (kind, is_kind, more') = then_value _ _ read more in
-    let (class, is_class, is) = then_value _ _ read more' in
-    subst (λ (x : Question × ℕ). IsShort x.0.name) (sym (ok_is read _ is)) (name_short bytes at name is_name)
-
-abbrev AsksShort : Question → Type 0
-AsksShort question = IsShort question.name
-
-questions_short : (bytes : List ℕ) (n start : ℕ) (read : List Question × ℕ) → ItemsAt (QuestionAt bytes) n start (Ok read)
-    → AllByRecursion AsksShort read.0
-questions_short bytes zero start read is = subst (λ (x : List Question × ℕ). AllByRecursion AsksShort x.0) (sym (ok_is read ([], start) is)) tt
-questions_short bytes (suc n) start read spelt =
-    let (first, is_first, more) = then_value _ _ read spelt in
-    let (rest, is_rest, is) = then_value _ _ read more in
-    subst (λ (x : List Question × ℕ). AllByRecursion AsksShort x.0) (sym (ok_is read (first.0 ∷ rest.0, rest.1) is))
-    (question_short bytes start first is_first, questions_short bytes n first.1 rest is_rest)
-
-spelt_short : (bytes : List ℕ) (message : Message) → Spells bytes message → AllByRecursion AsksShort message.questions
-spelt_short bytes message spelt =
-    let (header, is_header, after_header) = then_value _ _ message spelt in
-    let (questions, is_questions, after_questions) = then_value _ _ message after_header in
-    let (answers, is_answers, after_answers) = then_value _ _ message after_questions in
-    let (authority, is_authority, after_authority) = then_value _ _ message after_answers in
-    let (additional, is_additional, end) = then_value _ _ message after_authority in
-    elim end [
-      | inl whole ↦ subst (λ (x : Message). AllByRecursion AsksShort x.questions) (sym (ok_is message _ whole.2))
-          (questions_short bytes header.1.questions 12 questions is_questions)
-      | inr rest ↦ absurd (not_stopped message _ rest.1)
-    ]
 
 -- records with such owners have no more bytes than they weigh
 kept_small : (records : List Record) → ((one : Record) → Contains records one → IsShort one.owner) → size records ≤ weight records
@@ -194,7 +151,7 @@ follow_size zones kind (suc left) seen target added are ranged short (inr (not, 
           (λ next rest s f. follow_size zones kind left seen' next rest are ranged s f) adds,
     )
 
-question_size : (question : Question) → AsksShort question → length (flat_map question_wire (question ∷ [])) ≤ 259
+pub question_size : (question : Question) → IsShort question.name → length (flat_map question_wire (question ∷ [])) ≤ 259
 question_size question short =
     let whole : length (flat_map question_wire (question ∷ [])) ≡ length (question_wire question ++ []) =
     ap length (flat_map-cons question_wire question []) in
@@ -207,23 +164,23 @@ question_size question short =
       length-append (wire_of question.name ++ to_be_bytes w16 question.kind) (to_be_bytes w16 question.class),
     )
 
-options_size : (options : Option Record) (code : ℕ) → size (options_for options code) ≤ 11
+pub options_size : (options : Option Record) (code : ℕ) → size (options_for options code) ≤ 11
 options_size None code = omega arith
 options_size (Some options) code = omega arith
 
 -- so is what is said
-with_small : (question : Question) (authoritative : Bool) (added : Added) → AsksShort question → added_size added ≤ 64_680
+with_small : (question : Question) (authoritative : Bool) (added : Added) → IsShort question.name → added_size added ≤ 64_680
     → IsSmall (draft_with question authoritative added)
 with_small question authoritative added short few options =
     omega (arith, question_size question short, options_size options added.code, few)
 
-bare_asks : (code : ℕ) (question : Question) → AsksShort question → IsSmall (bare code (Some question))
+bare_asks : (code : ℕ) (question : Question) → IsShort question.name → IsSmall (bare code (Some question))
 bare_asks code question short options = omega (arith, question_size question short, options_size options code)
 
 bare_small : (code : ℕ) → IsSmall (bare code None)
 bare_small code options = omega (arith, options_size options code)
 
-finds_small : (zones : List Zone) (question : Question) (draft : Draft) → AreZones zones → AreInRange zones → AsksShort question
+finds_small : (zones : List Zone) (question : Question) (draft : Draft) → AreZones zones → AreInRange zones → IsShort question.name
     → Finds zones question draft → IsSmall draft
 finds_small zones question draft are ranged short (what, added, is, adds, e) =
     let seen : List Labels = folded_labels question.name ∷ [] in
@@ -232,42 +189,22 @@ finds_small zones question draft are ranged short (what, added, is, adds, e) =
     (λ next rest s f. follow_size zones question.kind 8 seen next rest are ranged s f) adds in
     subst IsSmall (sym e) (with_small question (is_authoritative (shown what)) added short (omega (arith, few)))
 
--- what is said at once is small, and what is looked up has such a name
-abbrev IsSmallPlan : Plan → Type 0
-IsSmallPlan (says draft) = IsSmall draft
-IsSmallPlan (looks_up question) = AsksShort question
+codes_small : IsOfCodes IsSmall
+codes_small = record {
+  alone = λ code few. bare_small code;
+  asked = λ code question few ranged. bare_asks code question ranged.name.short;
+}
 
-either : (test : Bool) (one other : Plan) → IsSmallPlan one → IsSmallPlan other → IsSmallPlan (if test then one else other)
-either true one other p q = p
-either false one other p q = q
-
-one_small : (options : Option Record) (question : Question) → AsksShort question → IsSmallPlan (plan_of_one options question)
-one_small options question short =
-    either (not (version_of options == 0)) (says (bare 16 (Some question))) _ (bare_asks 16 question short)
-    (either (is_refused question) (says (bare 5 (Some question))) (looks_up question) (bare_asks 5 question short) short)
-
-questions_small : (options : Option Record) (questions : List Question) → AllByRecursion AsksShort questions
-    → IsSmallPlan (plan_of_questions options questions)
-questions_small options [] short = bare_small 1
-questions_small options (question ∷ []) short = one_small options question short.0
-questions_small options (question ∷ another ∷ rest) short = bare_small 1
-
-plan_small : (query : Message) → AllByRecursion AsksShort query.questions → IsSmallPlan (plan_of query)
-plan_small query short =
-    either (strays query) (says (bare 1 None)) _ (bare_small 1)
-    (either (not (opcode_of query.header.bits == 0)) (says (bare 4 None)) _ (bare_small 4)
-    (questions_small (options_of query) query.questions short))
-
-comes_small : (zones : List Zone) (plan : Plan) (draft : Draft) → AreZones zones → AreInRange zones → IsSmallPlan plan → Comes zones plan draft
+comes_small : (zones : List Zone) (plan : Plan) (draft : Draft) → AreZones zones → AreInRange zones → IsPlanOf IsSmall plan → Comes zones plan draft
     → IsSmall draft
 comes_small zones (says one) draft are ranged small is = subst IsSmall (sym is) small
-comes_small zones (looks_up question) draft are ranged short finds = finds_small zones question draft are ranged short finds
+comes_small zones (looks_up question) draft are ranged short finds = finds_small zones question draft are ranged short.name.short finds
 
 drafted_small : (zones : List Zone) (query : List ℕ) (options : Option Record) (draft : Draft) → AreZones zones → AreInRange zones
     → IsDrafted zones query options draft → IsSmall draft
 drafted_small zones query options draft are ranged (inl (fault, breaks, none, is)) = subst IsSmall (sym is) (bare_small 1)
 drafted_small zones query options draft are ranged (inr (message, spells, heard, comes)) =
-    comes_small zones (plan_of message) draft are ranged (plan_small message (spelt_short query message spells)) comes
+    comes_small zones (plan_of message) draft are ranged (query_planned IsSmall codes_small message (spelt_questions query message spells)) comes
 
 pub stream_whole : (zones : List Zone) (query reply : List ℕ) → AreZones zones → AreInRange zones → IsReply zones query Stream (Some reply)
     → tc_of (header_of reply).bits ≡ 0

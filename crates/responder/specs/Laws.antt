@@ -1,5 +1,7 @@
 -- Laws of replies (this project's own).
 use Rattle.std.specs.Prelude.{◌≡◌, ℕ, List, Option, Some, Contains}
+use Rattle.std.specs.List.{AllByRecursion}
+use Rattle.dns_name.specs.Name.{IsByte}
 use Rattle.naptr_data.specs.Zones.{Labels}
 use Rattle.dns_wire.specs.Ranges.{IsRecord}
 use Rattle.dns_wire.specs.declared.record.Record.{Record}
@@ -32,3 +34,9 @@ abbrev pub StreamsAreWhole : Type 0
 StreamsAreWhole =
     (zones : List Zone) (query reply : List ℕ) → AreZones zones → AreInRange zones → IsReply zones query Stream (Some reply)
     → tc_of (header_of reply).bits ≡ 0
+
+-- each query has a reply, or nothing is said to it
+abbrev pub EachQueryHasAReply : Type 0
+EachQueryHasAReply =
+    (zones : List Zone) (query : List ℕ) (way : Way) → AreZones zones → AreInRange zones → AllByRecursion IsByte query
+    → (reply : Option (List ℕ)) × IsReply zones query way reply

@@ -1,5 +1,5 @@
 //! Laws of replies.
-ghost use Rattle.responder.specs.Laws.{FoundIsReady, StreamsAreWhole, ZonesHaveOneReply};
+ghost use Rattle.responder.specs.Laws.{EachQueryHasAReply, FoundIsReady, StreamsAreWhole, ZonesHaveOneReply};
 
 /// What is found in zones can be said: sets are not large, and hold what they were looked up for.
 pub fn found_is_ready()
@@ -9,6 +9,11 @@ pub fn found_is_ready()
 /// Zones have one reply to a query.
 pub fn one_reply()
     ensures { ZonesHaveOneReply }
+{}
+
+/// Each query over zones has a reply, or nothing is said to it.
+pub fn some_reply()
+    ensures { EachQueryHasAReply }
 {}
 
 /// No reply on a stream is cut short: TC is clear.

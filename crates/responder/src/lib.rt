@@ -14,6 +14,6 @@ mod reply;
 mod said;
 mod size;
 
-pub use laws::{found_is_ready, one_reply, stream_is_whole};
+pub use laws::{found_is_ready, one_reply, some_reply, stream_is_whole};
 pub use loop_link::LoopLink;
 pub use reply::{Answered, answer};
