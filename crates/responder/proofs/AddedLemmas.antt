@@ -10,7 +10,7 @@ use Rattle.zone_db.specs.LookUp.Shown.{alias_of}
 use Rattle.zone_db.specs.Replies.{Adds, Follows, nothing, owned_by}
 use Rattle.zone_db.specs.declared.draft.Added.{Added}
 use Rattle.zone_db.specs.declared.found.Found.{Found}
-use Rattle.responder.specs.Drafting.{IsAliasOf}
+use Rattle.responder.specs.Ready.{IsAliasOf}
 
 -- a code and one record, put where there was nothing
 pub negative_added : (none : Added) (code : ℕ) (told : Record) (pushed : List Record) → none ≡ nothing code

@@ -18,7 +18,7 @@ use Rattle.zone_db.specs.Sets.{AreZones}
 use Rattle.zone_db.specs.declared.found.Found.{Found}
 use Rattle.zone_db.specs.declared.found.Found.TheVariants as found
 use Rattle.zone_db.proofs.OfferLemmas.{found_is_readable}
-use Rattle.responder.specs.Drafting.{IsAliasOf, IsReady, TellsServer, TellsStart}
+use Rattle.responder.specs.Ready.{IsAliasOf, IsReady, TellsServer, TellsStart}
 
 -- a list that is one alias, by its first record
 pub alias_target : (set : List Record) (first : Record) (target target' : Labels) → IsAliasOf set target

@@ -1,17 +1,15 @@
 -- Each query over zones has a reply, or nothing is said to it.
-use Rattle.std.proofs.Common.{◌≡◌, ◌⊎◌, ℕ, zero, suc, ◌+◌, ◌*◌, ◌/◌, ◌%◌, ◌^◌, ◌<◌, ◌≤◌, List, [], ◌∷◌, ◌++◌, length, get_or, inl, inr, refl, sym, ap, subst, ◌∙◌, arith, length-append}
+use Rattle.std.proofs.Common.{◌≡◌, ◌⊎◌, ℕ, zero, suc, ◌+◌, ◌<◌, ◌≤◌, List, [], ◌∷◌, ◌++◌, length, get_or, inl, inr, refl, sym, subst, arith}
 use Rattle.std.specs.Prelude.{Contains, Bool, true, false, min, Option, Some, None}
 use Rattle.std.specs.List.{AllByRecursion, flat_map}
-use Rattle.dns_name.specs.Name.{IsByte, IsName, wire_of, folded_labels}
+use Rattle.dns_name.specs.Name.{IsByte, IsName, folded_labels}
 use Rattle.dns_name.proofs.NameLemmas.{AllByRecursion-append}
 use Rattle.naptr_data.specs.Zones.{Labels}
 use Rattle.naptr_data.proofs.CutLemmas.{Contains-head, Contains-after, Contains-none, head_or_after}
 use Rattle.naptr_data.proofs.DecideLemmas.{Either, numbers, lists, below_or_not}
 use Rattle.dns_wire.specs.Encoding.{message_wire, question_wire}
 use Rattle.dns_wire.specs.Kinds.{a, aaaa, cname}
-use Rattle.dns_wire.specs.Message.{Spells, Breaks}
 use Rattle.dns_wire.specs.Ranges.{IsContent, IsHeader, IsMessage, IsQuestion, IsRecord}
-use Rattle.dns_wire.specs.declared.decode_fault.DecodeFault.{DecodeFault}
 use Rattle.dns_wire.specs.declared.message.Header.{Header}
 use Rattle.dns_wire.specs.declared.message.Message.{Message}
 use Rattle.dns_wire.specs.declared.question.Question.{Question}
@@ -21,7 +19,7 @@ use Rattle.dns_wire.proofs.MessageStandLemmas.{reads_back}
 use Rattle.zone_build.specs.Zone.{Zone, IsSet, IsValid}
 use Rattle.zone_build.proofs.ListLemmas.{AllByRecursion-made}
 use Rattle.zone_build.proofs.MakeZoneLemmas.{some_set}
-use Rattle.zone_db.specs.Bits.{IsSilent, header_of, qr_of, opcode_of, rd_of, bit}
+use Rattle.zone_db.specs.Bits.{IsSilent, header_of, qr_of, bit}
 use Rattle.zone_db.specs.LookUp.{IsFound, shown}
 use Rattle.zone_db.specs.Replies.{Adds, AddressesOf, Comes, Finds, Follows, IsDrafted, IsGlue, IsMessageOf, IsNegative, IsPosted, IsReply, IsSent, Plan, says, looks_up, bare, draft_with, is_authoritative, limit_of, nothing, options_for, options_heard, owned_by, plan_of, questions_of, reply_header, reply_options, without_glue, without_records}
 use Rattle.zone_db.specs.Sets.{AreZones}
@@ -32,7 +30,7 @@ use Rattle.zone_db.specs.declared.found.Found.TheVariants as found
 use Rattle.zone_db.specs.declared.way.Way.{Way}
 use Rattle.zone_db.specs.declared.way.Way.TheVariants.{Datagram, Stream}
 use Rattle.zone_db.proofs.SomeFoundLemmas.{some_found}
-use Rattle.responder.specs.Drafting.{TellsServer, TellsStart}
+use Rattle.responder.specs.Ready.{TellsServer, TellsStart}
 use Rattle.responder.specs.Laws.{AreInRange}
 use Rattle.responder.specs.Sizes.{size, base_size}
 use Rattle.responder.proofs.QuestionLemmas.{IsOfCodes, IsPlanOf, query_planned, spelt_questions}

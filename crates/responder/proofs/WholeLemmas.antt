@@ -1,7 +1,7 @@
 -- A reply on a stream is whole: what is said is small.
-use Rattle.std.proofs.Common.{◌≡◌, ℕ, zero, suc, ◌+◌, ◌*◌, ◌≤◌, List, [], ◌∷◌, ◌++◌, length, inl, inr, sym, ap, subst, ◌∙◌, arith, Result, Ok, Err, length-append}
-use Rattle.std.specs.Prelude.{Contains, Bool, true, false, not, ◌==◌, if◌then◌else◌, Option, Some, None}
-use Rattle.std.specs.List.{AllByRecursion, flat_map}
+use Rattle.std.proofs.Common.{◌≡◌, ℕ, zero, suc, ◌+◌, ◌*◌, ◌≤◌, List, [], ◌∷◌, ◌++◌, length, inl, inr, sym, ap, subst, ◌∙◌, arith, length-append}
+use Rattle.std.specs.Prelude.{Contains, Bool, not, Option, Some, None}
+use Rattle.std.specs.List.{flat_map}
 use Rattle.std.specs.Int.{w16, w32, to_be_bytes}
 use Rattle.std.proofs.lemmas.List.Concat.{flat_map-cons}
 use Rattle.std.proofs.lemmas.List.Sums.{sum_by-cons}
@@ -10,19 +10,16 @@ use Rattle.naptr_data.specs.Zones.{Labels}
 use Rattle.naptr_data.proofs.CutLemmas.{Contains-head, Contains-after}
 use Rattle.dns_wire.specs.Encoding.{question_wire, record_wire}
 use Rattle.dns_wire.specs.Kinds.{cname}
-use Rattle.dns_wire.specs.Message.{ItemsAt, NameRead, QuestionAt, Spells}
 use Rattle.dns_wire.specs.Ranges.{IsContent, IsRecord, IsSoa}
 use Rattle.dns_wire.specs.Rdata.{rdata_of, soa_rdata}
 use Rattle.dns_wire.specs.declared.content.Content.TheVariants as content
 use Rattle.dns_wire.specs.declared.content.Soa.{Soa}
-use Rattle.dns_wire.specs.declared.message.Message.{Message}
 use Rattle.dns_wire.specs.declared.question.Question.{Question}
 use Rattle.dns_wire.specs.declared.record.Record.{Record}
-use Rattle.dns_wire.proofs.StepLemmas.{then_value}
 use Rattle.zone_build.specs.Zone.{Zone, weight}
-use Rattle.zone_db.specs.Bits.{tc_of, header_of, opcode_of}
+use Rattle.zone_db.specs.Bits.{tc_of, header_of}
 use Rattle.zone_db.specs.LookUp.{IsFound, shown}
-use Rattle.zone_db.specs.Replies.{Adds, Comes, Finds, Follows, IsDrafted, IsNegative, IsReply, Plan, says, looks_up, bare, draft_with, is_authoritative, is_refused, options_for, options_of, owned_by, plan_of, plan_of_one, plan_of_questions, strays, version_of}
+use Rattle.zone_db.specs.Replies.{Adds, Comes, Finds, Follows, IsDrafted, IsNegative, IsReply, Plan, says, looks_up, bare, draft_with, is_authoritative, options_for, owned_by, plan_of}
 use Rattle.zone_db.specs.Sets.{AreZones}
 use Rattle.zone_db.specs.declared.draft.Added.{Added}
 use Rattle.zone_db.specs.declared.draft.Draft.{Draft}

@@ -1,16 +1,12 @@
 -- What is said to a query, for private functions (this project's own).
-use Rattle.std.specs.Prelude.{◌≡◌, ℕ, ◌+◌, ◌*◌, ◌<◌, ◌≤◌, List, [], ◌∷◌, ◌++◌, Option, Some, None, ⊤}
-use Rattle.std.specs.List.{AllByRecursion}
+use Rattle.std.specs.Prelude.{◌≡◌, ℕ, ◌+◌, ◌*◌, ◌<◌, ◌≤◌, List, [], ◌∷◌, ◌++◌, Option, Some, None}
 use Rattle.naptr_data.specs.Zones.{Labels}
 use Rattle.dns_wire.specs.declared.content.Content.TheVariants as content
-use Rattle.dns_wire.specs.declared.content.Soa.{Soa}
 use Rattle.dns_wire.specs.declared.record.Record.{Record}
-use Rattle.zone_build.specs.Zone.{Zone, weight}
+use Rattle.zone_build.specs.Zone.{Zone}
 use Rattle.zone_db.specs.Replies.{Plan, says, looks_up, bare, nothing, AddressesOf, IsGlue, IsNegative}
 use Rattle.zone_db.specs.declared.draft.Added.{Added}
 use Rattle.zone_db.specs.declared.draft.Draft.{Draft}
-use Rattle.zone_db.specs.declared.found.Found.{Found}
-use Rattle.zone_db.specs.declared.found.Found.TheVariants as found
 use Rattle.responder.specs.Sizes.{size, base_size}
 use Rattle.responder.specs.declared.plan.Plan.{Plan as Planned}
 use Rattle.responder.specs.declared.plan.Plan.TheVariants as planned
@@ -22,27 +18,6 @@ abbrev pub plan_as : Planned → Plan
 plan_as (planned.Says code) = says (bare code None)
 plan_as (planned.Refuses code question) = says (bare code (Some question))
 plan_as (planned.LooksUp question) = looks_up question
-
--- a record tells a server
-abbrev pub TellsServer : Record → Type 0
-TellsServer one = (server : Labels) × (one.content ≡ content.Ns server)
-
--- a record is an SOA
-abbrev pub TellsStart : Record → Type 0
-TellsStart one = (soa : Soa) × (one.content ≡ content.Soa soa)
-
--- a set is one CNAME with that target
-abbrev pub IsAliasOf : List Record → Labels → Type 0
-IsAliasOf set target = (one : Record) × (set ≡ one ∷ []) × (one.content ≡ content.Cname target)
-
--- a set that was found is not large, and its records are what they are looked up for
-abbrev pub IsReady : Found → Type 0
-IsReady found.Outside = ⊤
-IsReady (found.Cut set) = AllByRecursion TellsServer set.now × (weight set.now ≤ 60_000)
-IsReady (found.Alias set) = (target : Labels) × IsAliasOf set.now target
-IsReady (found.Set set) = weight set.now ≤ 60_000
-IsReady (found.NoSet start) = TellsStart start.now
-IsReady (found.NoName start) = TellsStart start.now
 
 -- the addresses of one server were put after the others
 pub record AddsAddresses (zone : Zone) (cut server : Labels) (old new : List Record) : Type 0 where

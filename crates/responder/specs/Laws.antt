@@ -13,7 +13,7 @@ use Rattle.zone_db.specs.Sets.{AreZones}
 use Rattle.zone_db.specs.declared.found.Found.{Found}
 use Rattle.zone_db.specs.declared.way.Way.{Way}
 use Rattle.zone_db.specs.declared.way.Way.TheVariants.{Stream}
-use Rattle.responder.specs.Drafting.{IsReady}
+use Rattle.responder.specs.Ready.{IsReady}
 
 -- what is found in zones is ready to be said
 abbrev pub FoundIsReady : Type 0

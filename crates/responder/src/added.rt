@@ -7,7 +7,8 @@ ghost use Rattle.zone_build.specs.Zone.{weight};
 ghost use Rattle.zone_db.specs.LookUp.{IsFound, shown};
 ghost use Rattle.zone_db.specs.Replies.{Adds, Follows, IsGlue, IsNegative, Refers, nothing, owned_by};
 ghost use Rattle.zone_db.specs.declared.found.Found.TheVariants as f;
-ghost use Rattle.responder.specs.Drafting.{AddsNegative, IsAliasOf, IsReferral, TellsServer, TellsStart, added_size, most_added};
+ghost use Rattle.responder.specs.Drafting.{AddsNegative, IsReferral, added_size, most_added};
+ghost use Rattle.responder.specs.Ready.{IsAliasOf, TellsServer, TellsStart};
 ghost use Rattle.responder.specs.Sizes.{size};
 
 use crate::copies::{copies, negative_start, owned_by};

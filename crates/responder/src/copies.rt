@@ -5,7 +5,7 @@ ghost use Rattle.dns_wire.specs.Rdata.{rdata_of};
 ghost use Rattle.dns_wire.specs.declared.content.Content.TheVariants as content;
 ghost use Rattle.zone_build.specs.Zone.{weight};
 ghost use Rattle.zone_db.specs.Replies.{IsNegative, owned_by};
-ghost use Rattle.responder.specs.Drafting.{TellsStart};
+ghost use Rattle.responder.specs.Ready.{TellsStart};
 ghost use Rattle.responder.specs.Sizes.{size};
 
 use dns_name::Name;

@@ -2,7 +2,8 @@
 ghost use Rattle.std.specs.Prelude.{◌≡◌, IfOk, OnOk};
 ghost use Rattle.std.specs.List.{AllByRecursion};
 ghost use Rattle.zone_db.specs.Replies.{IsGlue};
-ghost use Rattle.responder.specs.Drafting.{AddsAddresses, AddsGlue, TellsServer};
+ghost use Rattle.responder.specs.Drafting.{AddsAddresses, AddsGlue};
+ghost use Rattle.responder.specs.Ready.{TellsServer};
 
 use crate::copies::push_copies;
 use dns_name::Name;
