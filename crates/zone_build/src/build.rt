@@ -3,7 +3,7 @@ ghost use Rattle.std.specs.Prelude.{◌≡◌, ◌<◌, length, Contains, IfOk, 
 ghost use Rattle.dns_wire.specs.declared.record.Record.{Record};
 ghost use Rattle.zone_build.specs.Zone.{IsCanonical, IsPlain};
 ghost use Rattle.zone_build.specs.Faults.{AreUnmixed, IsZoneFault};
-ghost use Rattle.zone_build.specs.Building.{AreGivens, IsOrdered, IsFirstLarge, IsApex, IsEntryApex, IsStartFault, IsFirstCut, IsPlan, IsLastFault};
+ghost use Rattle.zone_build.specs.Building.{AreGivens, IsOrdered, IsFirstLarge, IsApex, IsEntryApex, IsSoaFault, IsFirstCut, IsPlan, IsLastFault};
 
 use crate::clash::first_mixed;
 use crate::entry::Entry;
@@ -11,8 +11,8 @@ use crate::fault::ZoneFault;
 use crate::keep::Keep;
 use crate::merge::kept_of;
 use crate::size::first_large;
+use crate::soa::{first_outside, first_soa, first_wildcard_cut, is_only_soa, record_at};
 use crate::sort::sorted_entries;
-use crate::start::{first_outside, first_start, first_wildcard_cut, is_only_start, record_at};
 use dns_name::Name;
 use dns_wire::Record;
 use std::alloc::Global;
@@ -51,7 +51,7 @@ fn checked_apex(given: &[Record], entries: &[Entry<'_>]) -> Result<Name, ZoneFau
     ensures ok { IfOk result (λ apex. AreUnmixed given.now × IsApex given.now apex) }
     ensures err { IfErr result (IsZoneFault given.now) }
 {
-    let apex = match start_apex(entries) {
+    let apex = match soa_apex(entries) {
         Ok(apex) => apex,
         Err(fault) => return Err(fault),
     };
@@ -67,17 +67,17 @@ fn checked_apex(given: &[Record], entries: &[Entry<'_>]) -> Result<Name, ZoneFau
 }
 
 // The folded owner of the SOA.
-fn start_apex(entries: &[Entry<'_>]) -> Result<Name, ZoneFault>
+fn soa_apex(entries: &[Entry<'_>]) -> Result<Name, ZoneFault>
     ensures ok { IfOk result (IsEntryApex entries.now) }
-    ensures err { IfErr result (IsStartFault entries.now) }
+    ensures err { IfErr result (IsSoaFault entries.now) }
 {
-    let Some(start) = first_start(entries) else {
+    let Some(first) = first_soa(entries) else {
         return Err(ZoneFault::NoSoa);
     };
-    if !is_only_start(entries, start) {
+    if !is_only_soa(entries, first) {
         return Err(ZoneFault::TwoSoa);
     }
-    Ok(start.record().owner.fold())
+    Ok(first.record().owner.fold())
 }
 
 // The folded owner of the first delegated wildcard.
@@ -115,8 +115,8 @@ fn too_large(kept: &[Record]) -> Option<usize>
     ensures first { IsFirstLarge kept.now result }
     ensures within { IfSome result (λ place. place < length kept.now) }
 {
-    let (start, others) = kept.split_at(1);
-    if let Some(_) = first_large(start) {
+    let (soa, others) = kept.split_at(1);
+    if let Some(_) = first_large(soa) {
         return Some(0);
     }
     match first_large(others) {

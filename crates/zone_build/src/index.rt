@@ -13,9 +13,10 @@ use indexmap::IndexMap;
 use std::alloc::Global;
 use std::marker::Model;
 
-/// Places of records by the keys of names. Where two names have one key, the places of the second are in a list.
+/// Places of records by the keys of names. Where two names have one key, the places of the first are in a list.
 #[derive(Drop)]
 pub(crate) struct Index {
+    seed: u64,
     map: IndexMap<u64, Places>,
     rest: Vec<Places>,
 }
@@ -25,14 +26,16 @@ impl Model for Index {
 
     ghost Value = { Indexed };
 
-    ghost view = { λ i. record { entries = i.map.entries; rest = i.rest.items } };
+    ghost view = { λ i. record { seed = i.seed; entries = i.map.entries; rest = i.rest.items } };
 }
 
 impl Index {
-    pub(crate) fn new(alloc: Global) -> Index
-        ensures { result ≡ record { entries = []; rest = [] } }
+    /// An empty index under keys of that seed.
+    pub(crate) fn new(alloc: Global, seed: u64) -> Index
+        ensures { result ≡ record { seed = seed; entries = []; rest = [] } }
     {
         Index {
+            seed,
             map: IndexMap::new(alloc),
             rest: Vec::new(alloc),
         }
@@ -42,22 +45,44 @@ impl Index {
     pub(crate) fn insert(&mut self, key: u64, places: Places) -> Result<(), MemoryFault>
         ensures { OnOk result (IsInserted self.old self.new key places) }
     {
-        if self.map.contains_key(&key) {
-            self.rest.push(places)?;
-        } else {
-            self.map.insert(key, places)?;
+        match self.map.insert(key, places)? {
+            Some(before) => self.rest.push(before)?,
+            None => {}
         }
         Ok(())
+    }
+
+    /// The key of a name.
+    pub(crate) fn key_of(&self, name: &Name) -> u64
+        ensures { result ≡ key_of self.now.seed name.now }
+    {
+        key_of(self.seed, name)
     }
 
     /// The places of the records at that name, or of some at or below it.
     pub(crate) fn find(&self, records: &[Record], name: &Name, sought: Sought) -> Option<Places>
         requires { AllPlaces records.now self.now }
-        ensures there { IfSome result (λ one. Contains (candidates self.now (key_of name.now)) one) }
+        ensures there { IfSome result (λ one. Contains (candidates self.now (key_of self.now.seed name.now)) one) }
         ensures meets { IfSome result (λ one. Meets sought (owner_at records.now one.first) name.now) }
-        ensures none { IfNone result (NoneMeets sought records.now name.now (candidates self.now (key_of name.now))) }
+        ensures none { IfNone result (NoneMeets sought records.now name.now (candidates self.now (key_of self.now.seed name.now))) }
     {
-        if let Some(one) = self.map.get(&key_of(name)) {
+        self.find_under(self.key_of(name), records, name, sought)
+    }
+
+    /// The places under that key of the records at the name, or of some at or below it.
+    pub(crate) fn find_under(
+        &self,
+        key: u64,
+        records: &[Record],
+        name: &Name,
+        sought: Sought,
+    ) -> Option<Places>
+        requires { AllPlaces records.now self.now }
+        ensures there { IfSome result (λ one. Contains (candidates self.now key) one) }
+        ensures meets { IfSome result (λ one. Meets sought (owner_at records.now one.first) name.now) }
+        ensures none { IfNone result (NoneMeets sought records.now name.now (candidates self.now key)) }
+    {
+        if let Some(one) = self.map.get(&key) {
             if meets(records, one, name, sought) {
                 return Some(*one);
             }

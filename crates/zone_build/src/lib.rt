@@ -21,9 +21,9 @@ mod places;
 mod rdata_order;
 mod run;
 mod size;
+mod soa;
 mod sort;
 mod sought;
-mod start;
 mod words;
 mod zone;
 

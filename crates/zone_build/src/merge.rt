@@ -23,15 +23,15 @@ pub(crate) fn kept_of(alloc: Global, sorted: &[Entry<'_>]) -> Result<Vec<Keep>, 
 }
 
 // Appends what is kept of the SOA, or of all but the SOA.
-fn push_sets(sorted: &[Entry<'_>], start: bool, out: &mut Vec<Keep>) -> Result<(), MemoryFault>
+fn push_sets(sorted: &[Entry<'_>], as_soa: bool, out: &mut Vec<Keep>) -> Result<(), MemoryFault>
     requires ordered { IsOrdered sorted.now }
     requires stable { IsStable sorted.now }
-    ensures { OnOk result (AreMergedSets start sorted.now out.old.items out.new.items) }
+    ensures { OnOk result (AreMergedSets as_soa sorted.now out.old.items out.new.items) }
 {
     let mut at = 0;
     while at < sorted.len() {
         let set = run_at(sorted, at, Key::Set);
-        if is_start(&set[0]) == start {
+        if is_soa(&set[0]) == as_soa {
             push_set(set, out)?;
         }
         at += set.len();
@@ -60,7 +60,7 @@ fn push_set(set: &[Entry<'_>], out: &mut Vec<Keep>) -> Result<(), MemoryFault>
 }
 
 // Whether the record is an SOA.
-fn is_start(entry: &Entry<'_>) -> bool
+fn is_soa(entry: &Entry<'_>) -> bool
     ensures { result ≡ (entry.now.given.kind == soa) }
 {
     entry.kind() == 6

@@ -5,7 +5,6 @@ ghost use Rattle.zone_build.specs.FaultWords.{zone_fault, fault_of, set_fault};
 use crate::fault::ZoneFault;
 use dns_name::Name;
 use enum_base::{FaultWords, fault_at, fault_named};
-use itoa::Buffer as Digits;
 
 impl ZoneFault {
     /// Its name and its fields, with a space before each. Names are folded already.
@@ -41,9 +40,8 @@ fn fault_of(said: &str, owner: &Name) -> FaultWords
 fn set_fault(owner: &Name, kind: u16) -> FaultWords
     ensures { result ≡ set_fault owner.now kind }
 {
-    let mut digits = Digits::new();
     let mut words = fault_of("SetTooLarge", owner);
     words.push(b' ');
-    words.push_slice(digits.format(kind).as_bytes());
+    words.push_number(kind);
     words
 }

@@ -19,11 +19,16 @@ pub struct Zone {
     apex: Name,
     records: Vec<Record>,
     index: Index,
+    // How many rules and CNAMEs the records hold.
+    count: usize,
 }
 
 impl Model for Zone {
     ghost use Rattle.zone_build.specs.Zone as zone;
+    ghost use Rattle.std.specs.Prelude.{◌≡◌, ◌≤◌, length, map};
+    ghost use Rattle.naptr_data.specs.Zones.{rules_and_aliases_in};
     ghost use Rattle.zone_build.specs.Indexing.{IsIndex};
+    ghost use Rattle.zone_build.specs.Plain.{owned_of};
 
     ghost Value = { zone.Zone };
 
@@ -32,6 +37,8 @@ impl Model for Zone {
     ghost invariant = { λ z. record {
       valid : zone.IsValid (record { apex = z.apex; records = z.records.items });
       indexed : IsIndex z.records.items z.apex z.index;
+      counted : z.count ≡ rules_and_aliases_in (map owned_of z.records.items);
+      few : z.count ≤ length z.records.items;
     } };
 }
 
@@ -65,6 +72,7 @@ impl Zone {
             Some(fault) => Err(fault),
             None => Ok(Zone {
                 index: index_of(alloc, kept.as_slice(), &plan.apex)?,
+                count: count_in(kept.as_slice()),
                 apex: plan.apex,
                 records: kept,
             }),
@@ -99,7 +107,7 @@ impl Zone {
         ensures count { result ≡ rules_and_aliases_in (plain_of self.now).items }
         ensures few { result ≤ length self.now.records }
     {
-        count_in(self.records())
+        self.count
     }
 
     /// The apex, folded.

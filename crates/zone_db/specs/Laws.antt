@@ -37,7 +37,7 @@ ZonesShowOneAnswer =
     (zones : List Zone) (name : Labels) (kind : ℕ) (one other : Found) → AreZones zones → IsFound zones name kind one
     → IsFound zones name kind other → shown one ≡ shown other
 
--- .. and always one
+-- and there is one for every name and kind
 abbrev pub ZonesShowAnAnswer : Type 0
 ZonesShowAnAnswer = (zones : List Zone) (name : Labels) (kind : ℕ) → AreZones zones → (found : Found) × IsFound zones name kind found
 

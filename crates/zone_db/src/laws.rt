@@ -14,7 +14,7 @@ pub fn one_answer()
     ensures { ZonesShowOneAnswer }
 {}
 
-/// Zones show an answer for each name and kind.
+/// Zones show an answer for every name and kind.
 pub fn some_answer()
     ensures { ZonesShowAnAnswer }
 {}

@@ -15,8 +15,8 @@ mod link;
 mod lookup;
 mod offer;
 mod set;
+mod soa;
 mod source;
-mod start;
 mod way;
 mod words;
 

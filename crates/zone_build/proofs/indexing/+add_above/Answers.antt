@@ -1,6 +1,7 @@
 use Rattle.std.proofs.Common.{refl, arith}
 use Rattle.zone_build.specs.Indexing.{IsGrown, CoversAbove}
-use Rattle.zone_build.proofs.IndexLemmas.{grown_twice, covers_apex, covers_more, covers_root, shorter_above, below_parent, ok_map, both_map}
+use Rattle.zone_build.proofs.IndexLemmas.{grown_twice, covers_apex, covers_passed, covers_later, covers_more, covers_root}
+use Rattle.zone_build.proofs.IndexLemmas.{shorter_above, below_parent, ok_map, both_map}
 use Rattle.zone_build.proofs.indexing.+add_above.Goals as goal
 
 pub add_above-requires : goal.add_above-requires
@@ -11,13 +12,23 @@ add_above-requires t c =
         c.requires.places,
         (
           c.in_ok-add_name.ensures.grown.places,
-          below_parent _ c.args.name.now c.in-Some.above c.in-Some.ensures c.requires.below,
+          (
+            below_parent _ c.args.name.now c.in-Some.above c.in-Some.ensures c.requires.below,
+            covers_later c.args.records.now c.args.apex.now c.args.places.first c.args.index.now c.add_name.new.index
+                c.in_ok-add_name.ensures.grown c.requires.before,
+          ),
         ),
       ),
     )
 
 pub returns-then-same-clause-above : goal.returns-then-same-clause-above
 returns-then-same-clause-above t c = covers_apex c.args.records.now c.args.apex.now c.args.name.now c.args.index.now (c.if-same.ensures.0 refl)
+
+pub returns-then-branch-clause-above : goal.returns-then-branch-clause-above
+returns-then-branch-clause-above t c =
+    covers_passed c.args.records.now c.args.apex.now c.args.name.now c.args.places.first c.args.index.now
+    c.add_name.new.index c.requires.before c.in_ok-add_name.ensures.grown
+    (c.in_ok-add_name.ensures.passed c.if-branch.true)
 
 pub returns-in-Some-clause-grown : goal.returns-in-Some-clause-grown
 returns-in-Some-clause-grown t c =

@@ -1,7 +1,6 @@
 use Rattle.std.proofs.Common.{subst}
-use Rattle.naptr_data.proofs.BelowLemmas.{below_itself}
 use Rattle.zone_build.specs.Indexing.{CoversAbove}
-use Rattle.zone_build.proofs.IndexLemmas.{names_none, names_more, names_all, places_made}
+use Rattle.zone_build.proofs.IndexLemmas.{names_none, names_more, names_all}
 use Rattle.zone_build.proofs.indexing.add_names.Goals as goal
 
 pub loop-first-init : goal.loop-first-init

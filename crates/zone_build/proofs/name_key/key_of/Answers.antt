@@ -1,19 +1,20 @@
-use Rattle.std.proofs.Common.{ap, ◌∙◌}
-use Rattle.zone_build.specs.Indexing.{mixed}
-use Rattle.zone_build.specs.declared.name_key.TheConstants.{FIRST}
-use Rattle.zone_build.proofs.IndexLemmas.{state_first, state_more, key_met}
+use Rattle.std.proofs.Common.{◌≡◌, ◌+◌, ◌*◌, ◌/◌, ℕ, List, length, take, ap, ◌∙◌, arith}
+use Rattle.std.proofs.lemmas.List.{take_rest}
+use Rattle.enum_base.specs.Folding.{folded}
+use Rattle.zone_build.specs.Indexing.{number_after}
+use Rattle.zone_build.proofs.IndexLemmas.{state_more, key_met}
 use Rattle.zone_build.proofs.name_key.key_of.Goals as goal
 
-pub loop-byte-init : goal.loop-byte-init
-loop-byte-init c = state_first FIRST c.wire-byte-items.result.now
-
-pub loop-byte-preserved : goal.loop-byte-preserved
-loop-byte-preserved c =
-    state_more FIRST c.wire-byte-items.result.now c.loop-byte.byte-index c.loop-byte.state c.mixed-state.result
-    c.loop-byte-test.true c.loop-byte.invariant
-    (c.mixed-state.ensures ∙ ap (mixed c.loop-byte.state) c.fold_byte.ensures)
+pub loop-turn-preserved : goal.loop-turn-preserved
+loop-turn-preserved c =
+    c.mixed-state.ensures
+    ∙ state_more c.args.seed c.wire-wire.result.now c.loop-turn.turn c.loop-turn.state c.number_of.result
+    c.loop-turn.invariant
+    (c.number_of.ensures
+    ∙ ap (λ (xs : List ℕ). number_after 0 (folded (take 7 xs))) (take_rest c.wire-wire.result.now (7 * c.loop-turn.turn)))
 
 pub returns : goal.returns
 returns c =
-    key_met c.args.name.now c.wire-byte-items.result.now c.loop-byte.byte-index c.loop-byte.state
-    c.wire-byte-items.ensures.value c.wire-byte-items.ensures.name c.loop-byte-test.false c.loop-byte.invariant
+    let end : c.loop-turn.turn ≡ length c.wire-wire.result.now / 7 + 1 = let a = c.loop-turn.auto.turn-end in let b = c.loop-turn-test.false in omega arith in
+    key_met c.args.seed c.args.name.now c.wire-wire.result.now c.loop-turn.turn c.loop-turn.state c.wire-wire.ensures.value
+    c.wire-wire.ensures.name end c.loop-turn.invariant

@@ -1,8 +1,7 @@
-use Rattle.std.proofs.Common.{◌≡◌, take}
+use Rattle.std.proofs.Common.{◌≡◌}
 use Rattle.enum_base.specs.Folding.{folded}
 use Rattle.zone_build.specs.Indexing.{state_after}
-use Rattle.zone_build.specs.declared.name_key.TheConstants.{FIRST}
 use Rattle.zone_build.proofs.name_key.key_of.Given as goal
 
-abbrev pub invariant-loop-byte : goal.invariant-loop-byte
-invariant-loop-byte l = l.state ≡ state_after FIRST (folded (take l.byte-index l.byte-items))
+abbrev pub invariant-loop-turn : goal.invariant-loop-turn
+invariant-loop-turn l = l.state ≡ state_after l.seed (folded l.wire) l.turn

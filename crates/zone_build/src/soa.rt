@@ -14,9 +14,9 @@ use dns_wire::Record;
 use std::cmp::Ordering;
 
 /// The first SOA.
-pub(crate) fn first_start<'a, 'b>(entries: &'a [Entry<'b>]) -> Option<&'a Entry<'b>>
+pub(crate) fn first_soa<'a, 'b>(entries: &'a [Entry<'b>]) -> Option<&'a Entry<'b>>
     ensures { MatchOption result ((e : Given) → Contains entries.now e → ¬ (e.given.kind ≡ soa))
-        (λ start. Contains entries.now start.now × (start.now.given.kind ≡ soa)) }
+        (λ first. Contains entries.now first.now × (first.now.given.kind ≡ soa)) }
 {
     for entry in entries {
         if entry.kind() == 6 {
@@ -27,11 +27,11 @@ pub(crate) fn first_start<'a, 'b>(entries: &'a [Entry<'b>]) -> Option<&'a Entry<
 }
 
 /// Whether each SOA is a repeat of this one.
-pub(crate) fn is_only_start(entries: &[Entry<'_>], start: &Entry<'_>) -> bool
-    ensures { IsTrue result ↔ ((e : Given) → Contains entries.now e → e.given.kind ≡ soa → AreRepeats start.now.given e.given) }
+pub(crate) fn is_only_soa(entries: &[Entry<'_>], first: &Entry<'_>) -> bool
+    ensures { IsTrue result ↔ ((e : Given) → Contains entries.now e → e.given.kind ≡ soa → AreRepeats first.now.given e.given) }
 {
     for entry in entries {
-        if !goes_with(start, entry) {
+        if !goes_with(first, entry) {
             return false;
         }
     }
@@ -39,10 +39,10 @@ pub(crate) fn is_only_start(entries: &[Entry<'_>], start: &Entry<'_>) -> bool
 }
 
 // Whether the record, where it is an SOA, is a repeat of the first.
-fn goes_with(start: &Entry<'_>, entry: &Entry<'_>) -> bool
-    ensures { IsTrue result ↔ (entry.now.given.kind ≡ soa → AreRepeats start.now.given entry.now.given) }
+fn goes_with(first: &Entry<'_>, entry: &Entry<'_>) -> bool
+    ensures { IsTrue result ↔ (entry.now.given.kind ≡ soa → AreRepeats first.now.given entry.now.given) }
 {
-    entry.kind() != 6 || is_repeat(start, entry)
+    entry.kind() != 6 || is_repeat(first, entry)
 }
 
 fn is_repeat(one: &Entry<'_>, other: &Entry<'_>) -> bool

@@ -1,7 +1,7 @@
 use Rattle.std.proofs.Common.{◌∙◌}
 use Rattle.zone_build.specs.declared.key.Key.TheVariants.{Whole}
 use Rattle.zone_build.proofs.OrderLemmas.{alike_equal}
-use Rattle.zone_build.proofs.start.is_repeat.Goals as goal
+use Rattle.zone_build.proofs.soa.is_repeat.Goals as goal
 
 pub returns-in_default : goal.returns-in_default
 returns-in_default c = (

@@ -1,7 +1,7 @@
 use Rattle.std.proofs.Common.{inl, inr, sym, ap, ◌∙◌}
 use Rattle.zone_build.specs.Building.{Given}
 use Rattle.zone_build.proofs.ListLemmas.{turn_of, turned_all}
-use Rattle.zone_build.proofs.start.first_start.Goals as goal
+use Rattle.zone_build.proofs.soa.first_soa.Goals as goal
 
 pub loop-entry-preserved : goal.loop-entry-preserved
 loop-entry-preserved c = λ e k is. elim (turn_of c.args.entries.now c.loop-entry.entry-index c.entry-item.result e c.loop-entry-test.true c.entry-item.is k) [

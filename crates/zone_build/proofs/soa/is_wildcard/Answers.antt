@@ -1,7 +1,7 @@
 use Rattle.std.proofs.Common.{sym, ap, ◌∙◌}
 use Rattle.zone_build.specs.Building.{begins_wildcard}
-use Rattle.zone_build.proofs.StartLemmas.{wildcard_of, wildcard_begins}
-use Rattle.zone_build.proofs.start.is_wildcard.Goals as goal
+use Rattle.zone_build.proofs.SoaLemmas.{wildcard_of, wildcard_begins}
+use Rattle.zone_build.proofs.soa.is_wildcard.Goals as goal
 
 pub returns : goal.returns
 returns c =

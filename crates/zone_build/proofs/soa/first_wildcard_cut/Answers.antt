@@ -1,7 +1,7 @@
 use Rattle.zone_build.specs.Faults.{IsWildcardCut}
 use Rattle.zone_build.proofs.ListLemmas.{turned_all}
-use Rattle.zone_build.proofs.StartLemmas.{first_found, none_more}
-use Rattle.zone_build.proofs.start.first_wildcard_cut.Goals as goal
+use Rattle.zone_build.proofs.SoaLemmas.{first_found, none_more}
+use Rattle.zone_build.proofs.soa.first_wildcard_cut.Goals as goal
 
 pub returns-then-is_wildcard_cut-clause-some : goal.returns-then-is_wildcard_cut-clause-some
 returns-then-is_wildcard_cut-clause-some c = (

@@ -1,8 +1,8 @@
 use Rattle.dns_name.specs.Name.{IsBelow}
 use Rattle.dns_wire.specs.declared.record.Record.{Record}
 use Rattle.zone_build.proofs.ListLemmas.{turned_all}
-use Rattle.zone_build.proofs.StartLemmas.{first_found}
-use Rattle.zone_build.proofs.start.first_outside.Goals as goal
+use Rattle.zone_build.proofs.SoaLemmas.{first_found}
+use Rattle.zone_build.proofs.soa.first_outside.Goals as goal
 
 pub returns-then-not-is_below-clause-some : goal.returns-then-not-is_below-clause-some
 returns-then-not-is_below-clause-some c = (

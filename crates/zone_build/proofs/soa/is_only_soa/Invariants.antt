@@ -3,7 +3,7 @@ use Rattle.std.specs.Prelude.{Contains}
 use Rattle.dns_wire.specs.Kinds.{soa}
 use Rattle.zone_build.specs.Zone.{AreRepeats}
 use Rattle.zone_build.specs.Building.{Given}
-use Rattle.zone_build.proofs.start.is_only_start.Given as goal
+use Rattle.zone_build.proofs.soa.is_only_soa.Given as goal
 
 abbrev pub invariant-loop-entry : goal.invariant-loop-entry
-invariant-loop-entry l = (e : Given) → Contains (take l.entry-index l.entries) e → e.given.kind ≡ soa → AreRepeats l.start.given e.given
+invariant-loop-entry l = (e : Given) → Contains (take l.entry-index l.entries) e → e.given.kind ≡ soa → AreRepeats l.first.given e.given
