@@ -30,7 +30,7 @@ use Rattle.zone_db.specs.declared.found.Found.TheVariants as found
 use Rattle.zone_db.specs.declared.way.Way.{Way}
 use Rattle.zone_db.specs.declared.way.Way.TheVariants.{Datagram, Stream}
 use Rattle.zone_db.proofs.SomeFoundLemmas.{some_found}
-use Rattle.responder.specs.Ready.{TellsServer, TellsStart}
+use Rattle.responder.specs.Ready.{TellsServer, TellsSoa}
 use Rattle.responder.specs.Laws.{AreInRange}
 use Rattle.responder.specs.Sizes.{size, base_size}
 use Rattle.responder.proofs.QuestionLemmas.{IsOfCodes, IsPlanOf, query_planned, spelt_questions}
@@ -121,9 +121,9 @@ some_glue zones zone (one ∷ set) ranged among valid tells =
       AllByRecursion-append IsRecord first.0 more.0 first.2 more.2,
     )
 
-some_negative : (start : Record) → IsRecord start → TellsStart start → (told : Record) × IsNegative start told × IsRecord told
-some_negative start ranged (soa, tells) = (
-  record start { ttl = min start.ttl soa.minimum },
+some_negative : (the_soa : Record) → IsRecord the_soa → TellsSoa the_soa → (told : Record) × IsNegative the_soa told × IsRecord told
+some_negative the_soa ranged (soa, tells) = (
+  record the_soa { ttl = min the_soa.ttl soa.minimum },
   (soa, tells, refl),
   record {
     owner = ranged.owner;
@@ -175,16 +175,16 @@ some_added Further zones name kind code (found.Set set) are ranged named few (zo
     glue = tt;
   },
 )
-some_added Further zones name kind code (found.NoSet start) are ranged named few (zone, source, served, exists, not, none, here) more =
-    let tells = found_ready zones name kind (found.NoSet start) are (zone, source, served, exists, not, none, here) in
-    let told = some_negative start.now (ranged zone start.now served.decides.among here.0) tells in (
+some_added Further zones name kind code (found.NoSet the_soa) are ranged named few (zone, source, served, exists, not, none, here) more =
+    let tells = found_ready zones name kind (found.NoSet the_soa) are (zone, source, served, exists, not, none, here) in
+    let told = some_negative the_soa.now (ranged zone the_soa.now served.decides.among here.0) tells in (
       record (nothing 0) { authority = told.0 ∷ [] },
       (told.0, told.1, refl),
       record { code = omega arith; answers = tt; authority = (told.2, tt); glue = tt },
     )
-some_added Further zones name kind code (found.NoName start) are ranged named few (zone, source, served, not, here) more =
-    let tells = found_ready zones name kind (found.NoName start) are (zone, source, served, not, here) in
-    let told = some_negative start.now (ranged zone start.now served.decides.among here.0) tells in (
+some_added Further zones name kind code (found.NoName the_soa) are ranged named few (zone, source, served, not, here) more =
+    let tells = found_ready zones name kind (found.NoName the_soa) are (zone, source, served, not, here) in
+    let told = some_negative the_soa.now (ranged zone the_soa.now served.decides.among here.0) tells in (
       record (nothing 3) { authority = told.0 ∷ [] },
       (told.0, told.1, refl),
       record { code = omega arith; answers = tt; authority = (told.2, tt); glue = tt },

@@ -87,11 +87,11 @@ soa_small soa ranged =
     )
 
 -- an SOA is small
-start_small : (start told : Record) → IsRecord start → IsNegative start told → size (told ∷ []) ≤ 795
-start_small start told ranged (soa, tells, is) =
+negative_small : (the_soa told : Record) → IsRecord the_soa → IsNegative the_soa told → size (told ∷ []) ≤ 795
+negative_small the_soa told ranged (soa, tells, is) =
     let fields : IsSoa soa = subst IsContent tells ranged.content in
     let content : told.content ≡ content.Soa soa = ap (λ (x : Record). x.content) is ∙ tells in
-    let owner : told.owner ≡ start.owner = ap (λ (x : Record). x.owner) is in
+    let owner : told.owner ≡ the_soa.owner = ap (λ (x : Record). x.owner) is in
     let whole : size (told ∷ []) ≡ length (record_wire told ++ []) = ap length (flat_map-cons record_wire told []) in
     omega (
       arith,
@@ -131,10 +131,10 @@ adds_size Further zones name kind code most (found.Alias set) added are ranged (
 adds_size Further zones name kind code most (found.Set set) added are ranged is short low more e =
     let few : weight set.now ≤ 60_000 = found_ready zones name kind (found.Set set) are is in
     omega (arith, low, few, owned_small name set.now short, ap added_size e)
-adds_size Further zones name kind code most (found.NoSet start) added are ranged (zone, source, served, exists, not, none, here) short low more (told, n, e) =
-    omega (arith, low, start_small start.now told (ranged zone start.now served.decides.among here.0) n, ap added_size e)
-adds_size Further zones name kind code most (found.NoName start) added are ranged (zone, source, served, not, here) short low more (told, n, e) =
-    omega (arith, low, start_small start.now told (ranged zone start.now served.decides.among here.0) n, ap added_size e)
+adds_size Further zones name kind code most (found.NoSet the_soa) added are ranged (zone, source, served, exists, not, none, here) short low more (told, n, e) =
+    omega (arith, low, negative_small the_soa.now told (ranged zone the_soa.now served.decides.among here.0) n, ap added_size e)
+adds_size Further zones name kind code most (found.NoName the_soa) added are ranged (zone, source, served, not, here) short low more (told, n, e) =
+    omega (arith, low, negative_small the_soa.now told (ranged zone the_soa.now served.decides.among here.0) n, ap added_size e)
 
 follow_size : (zones : List Zone) (kind left : ℕ) (seen : List Labels) (target : Labels) (added : Added) → AreZones zones → AreInRange zones
     → IsShort target → Follows zones kind left seen target added → added_size added ≤ 520 * left + 60_000

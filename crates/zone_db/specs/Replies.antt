@@ -104,7 +104,7 @@ owned_by name records = map (λ (one : Record). record one { owner = name }) rec
 
 -- an SOA that tells how long it may be kept that something is not there (RFC 2308, 3)
 abbrev pub IsNegative : Record → Record → Type 0
-IsNegative start told = (soa : Soa) × (start.content ≡ content.Soa soa) × (told ≡ record start { ttl = min start.ttl soa.minimum })
+IsNegative the_soa told = (soa : Soa) × (the_soa.content ≡ content.Soa soa) × (told ≡ record the_soa { ttl = min the_soa.ttl soa.minimum })
 
 -- the addresses of a server at or below a cut, in the zone of the cut; of another server there are none (RFC 1034, 4.2.1)
 abbrev pub AddressesOf : Zone → Labels → Labels → List Record → Type 0
@@ -135,10 +135,10 @@ Adds Further zones name code (alias_of set) added =
     (one : Record) × (target : Labels) × (rest : Added) × (set ≡ one ∷ []) × (one.content ≡ content.Cname target) × Further target rest
     × (added ≡ record rest { answers = owned_by name set ++ rest.answers })
 Adds Further zones name code (set_of set) added = added ≡ record (nothing 0) { answers = owned_by name set }
-Adds Further zones name code (no_set start) added =
-    (told : Record) × IsNegative start told × (added ≡ record (nothing 0) { authority = told ∷ [] })
-Adds Further zones name code (no_name start) added =
-    (told : Record) × IsNegative start told × (added ≡ record (nothing 3) { authority = told ∷ [] })
+Adds Further zones name code (no_set the_soa) added =
+    (told : Record) × IsNegative the_soa told × (added ≡ record (nothing 0) { authority = told ∷ [] })
+Adds Further zones name code (no_name the_soa) added =
+    (told : Record) × IsNegative the_soa told × (added ≡ record (nothing 3) { authority = told ∷ [] })
 
 -- what is added for the target of an alias, after which so many more may be followed: nothing where none may be, or where the target
 -- was looked up already
@@ -156,8 +156,8 @@ is_authoritative outside = false
 is_authoritative (cut_of set) = false
 is_authoritative (alias_of set) = true
 is_authoritative (set_of set) = true
-is_authoritative (no_set start) = true
-is_authoritative (no_name start) = true
+is_authoritative (no_set the_soa) = true
+is_authoritative (no_name the_soa) = true
 
 -- what is said to a question by what was added for its name
 abbrev pub draft_with : Question → Bool → Added → Draft
