@@ -17,9 +17,9 @@ use Rattle.dns_wire.specs.declared.record.Record.{Record}
 use Rattle.zone_build.specs.Zone.{Zone, IsValid, IsIn, IsSet, IsRising, IsCanonical, order_of, owner_order}
 use Rattle.zone_build.specs.Finding.{IsKindStart, IsLeastKindAt, least_kind_with}
 use Rattle.zone_build.specs.Indexing.{Indexed, ArePlaces, NoneMeets, FindsOwners, IsIndex, candidates, key_of, owner_at, kind_at}
-use Rattle.zone_build.specs.declared.places.Places.{Places}
-use Rattle.zone_build.specs.declared.sought.Sought.TheVariants.{At, Below}
-use Rattle.zone_build.specs.declared.key.Key.TheVariants.{Owner, Set}
+use Rattle.zone_build.specs.declared.index.Places.{Places}
+use Rattle.zone_build.specs.declared.index.Sought.TheVariants.{At, Below}
+use Rattle.zone_build.specs.declared.entry.Key.TheVariants.{Owner, Set}
 use Rattle.zone_build.proofs.ListLemmas.{AllByRecursion-contains, AllByRecursion-made}
 use Rattle.zone_build.proofs.OrderLemmas.{three, key_not_after, alike_equal}
 use Rattle.zone_build.proofs.IndexLemmas.{record_at, place_of, same_keys, below_both, before_or_from, equal_or_after}

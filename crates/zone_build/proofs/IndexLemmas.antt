@@ -7,7 +7,7 @@ use Rattle.std.proofs.lemmas.Bool.Decides.{nat_tests}
 use Rattle.std.proofs.lemmas.List.{take_more, take_all, take-map, drop-map, map-append, length-map, get_or_default}
 use Rattle.enum_base.specs.Folding.{folded, folded_byte}
 use Rattle.dns_name.proofs.NameLemmas.{folded-wire_of}
-use Rattle.zone_build.specs.declared.sought.Sought.{Sought}
+use Rattle.zone_build.specs.declared.index.Sought.{Sought}
 use Rattle.std.specs.Option.{option_to_list}
 use Rattle.std.specs.Map.{lookup}
 use Rattle.std.specs.declared.cmp.Ordering.{Ordering}
@@ -25,8 +25,8 @@ use Rattle.zone_build.specs.Zone.{IsRising, IsCanonical, order_of}
 use Rattle.zone_build.specs.Indexing.{Indexed, IsInserted, AllPlaces, ArePlaces, Meets, NoneMeets, FindsOwners, IsIndex}
 use Rattle.zone_build.specs.Indexing.{IsRunEnd, HasBelow, CoversAbove, IsGrown, CoversBefore, IsAboveEarlier, candidates, key_of, mixed, joined}
 use Rattle.zone_build.specs.Indexing.{number_after, state_after, owner_at, kind_at}
-use Rattle.zone_build.specs.declared.places.Places.{Places}
-use Rattle.zone_build.specs.declared.key.Key.TheVariants.{Owner}
+use Rattle.zone_build.specs.declared.index.Places.{Places}
+use Rattle.zone_build.specs.declared.entry.Key.TheVariants.{Owner}
 use Rattle.zone_build.proofs.ListLemmas.{AllByRecursion-contains, turn_of, turned_all}
 use Rattle.zone_build.proofs.OrderLemmas.{bytes_cmp, three, less_not_after, then_before, key_not_after}
 

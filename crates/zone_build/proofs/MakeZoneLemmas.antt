@@ -21,7 +21,7 @@ use Rattle.zone_build.specs.Faults.{HasSoa, HasOneSoa, AreInside, AreUnmixed, Is
 use Rattle.zone_build.specs.Building.{key_order}
 use Rattle.zone_build.specs.declared.fault.ZoneFault.{ZoneFault}
 use Rattle.zone_build.specs.declared.fault.ZoneFault.TheVariants as fault
-use Rattle.zone_build.specs.declared.key.Key.TheVariants.{Set, Whole}
+use Rattle.zone_build.specs.declared.entry.Key.TheVariants.{Set, Whole}
 use Rattle.zone_build.proofs.ListLemmas.{AllByRecursion-contains, AllByRecursion-made, only_one}
 use Rattle.zone_build.proofs.OrderLemmas.{bytes_cmp, bytes_cmp-equal, nat_cmp-equal, then_equal, equal_then}
 use Rattle.zone_build.proofs.OrderLemmas.{order_of-total, key_order-total, key_not_after, alike_equal, alike_sym}

@@ -2,14 +2,10 @@
 ghost use Rattle.std.specs.Prelude.{◌≡◌, ◌<◌, ◌≤◌, ℕ, length, IsTrue, OnOk, IfOk};
 ghost use Rattle.dns_name.specs.Name.{AreSame, IsBelow};
 ghost use Rattle.zone_build.specs.Zone.{IsCanonical};
-ghost use Rattle.zone_build.specs.Indexing.{ArePlaces, AllPlaces, IsIndex, FindsOwners, IsRunEnd, HasBelow, CoversAbove, CoversBefore, IsAboveEarlier};
-ghost use Rattle.zone_build.specs.Indexing.{IsGrown, owner_at};
+ghost use Rattle.zone_build.specs.Indexing.{ArePlaces, AllPlaces, IsIndex, FindsOwners, IsRunEnd, HasBelow, CoversAbove, CoversBefore, IsAboveEarlier, IsGrown, owner_at};
 
-use crate::index::{Index, owner_at};
-use crate::name_key::seed_of;
+use crate::index::{Index, Places, Sought, owner_at, seed_of};
 use crate::order::cmp_owners;
-use crate::places::Places;
-use crate::sought::Sought;
 use dns_name::Name;
 use dns_wire::Record;
 use enum_base::MemoryFault;
