@@ -16,8 +16,8 @@ use Rattle.std.specs.Cmp.{IsTotalOrder}
 use Rattle.std.proofs.lemmas.Cmp.{nat_list_cmp_total, on_total, tied_itself}
 use Rattle.std.proofs.lemmas.List.Elements.{Contains-append_left, Contains-append_right, Contains-append_cases}
 use Rattle.naptr_data.proofs.CutLemmas.{Contains-head, Contains-after, Contains-none, head_or_after}
-use Rattle.naptr_data.proofs.BelowLemmas.{below_above, below_trans, below_same_top, below_same_name, length_below, length_same}
-use Rattle.naptr_data.proofs.DecideLemmas.{below_parts}
+use Rattle.naptr_data.proofs.BelowLemmas.{below_itself, below_above, below_trans, below_same_top, below_same_name, length_below, length_same}
+use Rattle.naptr_data.proofs.DecideLemmas.{below_parts, same_or_not}
 use Rattle.naptr_data.specs.Zones.{Labels}
 use Rattle.dns_name.specs.Name.{AreSame, IsBelow, IsName, folded_labels, wire_of, parent_of}
 use Rattle.dns_wire.specs.declared.record.Record.{Record}
@@ -365,6 +365,36 @@ below_both a b (l ∷ front, back, parts, same) d =
     let part = length_same back b same in
     let less = length_below b a d in
     absurd (omega (arith, whole, part, less))
+
+-- an owner that an index finds is at or below itself
+places_or_none : (P : Places → Type 0) → ((one : Places) → P one ⊎ (P one → ⊥)) → (list : List Places)
+    → ((one : Places) × Contains list one × P one) ⊎ ((one : Places) → Contains list one → ¬ P one)
+places_or_none P each [] = inr (λ one c p. Contains-none one c)
+places_or_none P each (x ∷ xs) = next (each x) (places_or_none P each xs)
+  where
+    next : P x ⊎ (P x → ⊥) → ((one : Places) × Contains xs one × P one) ⊎ ((one : Places) → Contains xs one → ¬ P one)
+        → ((one : Places) × Contains (x ∷ xs) one × P one) ⊎ ((one : Places) → Contains (x ∷ xs) one → ¬ P one)
+    next (inl here) h = inl (x, Contains-head x xs, here)
+    next (inr not) (inl (one, c, p)) = inl (one, Contains-after x xs one c, p)
+    next (inr not) (inr none) = inr (λ one c p. elim (head_or_after x xs one c) [
+      | inl same ↦ not (subst P same p)
+      | inr after ↦ none one after p
+    ])
+
+pub owner_there : (records : List Record) (index : Indexed) (k : ℕ) → FindsOwners records index → 0 < k → k < length records
+    → HasBelow records index (owner_at records k)
+owner_there records index k found p l =
+    elim (places_or_none (λ one. AreSame (owner_at records one.first) (owner_at records k))
+    (λ one. same_or_not (owner_at records one.first) (owner_at records k))
+    (candidates index (key_of index.seed (owner_at records k)))) [
+      | inl (one, c, same) ↦ (
+        one,
+        c,
+        below_same_top (owner_at records one.first) (owner_at records one.first) (owner_at records k) same
+            (below_itself (owner_at records one.first)),
+      )
+      | inr none ↦ absurd (found.owners k p l none)
+    ]
 
 -- the names at or above one
 pub covers_apex : (records : List Record) (apex name : Labels) (index : Indexed) → AreSame name apex → CoversAbove records apex name index

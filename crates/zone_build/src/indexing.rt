@@ -55,7 +55,7 @@ fn add_names(index: &mut Index, records: &[Record], apex: &Name) -> Result<(), M
     Ok(())
 }
 
-// Adds the name and those above it that are below the apex, up to one that is above an owner that was passed.
+// Adds the names above one that is found, up to the apex or to one that is above an owner that was passed.
 fn add_above(
     index: &mut Index,
     records: &[Record],
@@ -67,19 +67,20 @@ fn add_above(
     requires all { AllPlaces records.now index.old }
     requires below { IsBelow (owner_at records.now places.first) name.now }
     requires before { CoversBefore records.now apex.now places.first index.old }
+    requires there { HasBelow records.now index.old name.now }
     ensures grown { OnOk result (IsGrown records.now index.old index.new) }
     ensures above { OnOk result (CoversAbove records.now apex.now name.now index.new) }
 {
     if name.same(apex) {
         return Ok(());
     }
-    if add_name(index, records, places, name)? {
+    let Some(above) = name.parent() else {
+        return Ok(());
+    };
+    if add_name(index, records, places, &above)? {
         return Ok(());
     }
-    match name.parent() {
-        Some(above) => add_above(index, records, apex, places, &above),
-        None => Ok(()),
-    }
+    add_above(index, records, apex, places, &above)
 }
 
 // Adds the name, unless it is found already, and answers whether it is found for an owner that was passed.
