@@ -151,7 +151,8 @@ pub(crate) fn seed_of(records: &[Record]) -> u64
 }
 
 /// The key of a name, compared folded: the value at the seed of a polynomial modulo 2^61 - 1 whose coefficients are
-/// the numbers that seven bytes of the wire form make each. It is reduced in part, and no sum or product passes its type.
+/// the numbers that seven bytes of the wire form make each. It is reduced in part, and no sum or product passes its
+/// type.
 pub(crate) fn key_of(seed: u64, name: &Name) -> u64
     ensures { result ≡ key_of seed name.now }
 {
