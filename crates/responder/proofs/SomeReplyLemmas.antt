@@ -100,7 +100,7 @@ some_addresses zones zone cut server ranged among valid = elim (below_or_not ser
         four.0 ++ six.0,
         inl (below, (four.0, six.0, four.1, six.1, refl)),
         AllByRecursion-append IsRecord four.0 six.0 (set_ranged zones zone server a four.0 ranged among four.1)
-        (set_ranged zones zone server aaaa six.0 ranged among six.1),
+            (set_ranged zones zone server aaaa six.0 ranged among six.1),
       )
   | inr not ↦ ([], inr (not, refl), tt)
 ]
@@ -347,9 +347,9 @@ some_sent limit query options draft most ranged said =
     elim (less_or_not limit (base_size options draft + size draft.glue)) [
       | inr few ↦ sent_whole limit query options draft most ranged said few
       | inl more ↦ elim (less_or_not limit (base_size options draft)) [
-          | inr few ↦ sent_no_glue limit query options draft most ranged said more few
-          | inl more' ↦ sent_short limit query options draft ranged said more'
-        ]
+        | inr few ↦ sent_no_glue limit query options draft most ranged said more few
+        | inl more' ↦ sent_short limit query options draft ranged said more'
+      ]
     ]
 
 limit_most : (way : Way) (options : Option Record) → limit_of way options ≤ 65_535
