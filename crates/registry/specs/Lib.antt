@@ -1,4 +1,0 @@
-pub mod Commands
-pub mod Holding
-pub mod Keys
-pub mod Laws
