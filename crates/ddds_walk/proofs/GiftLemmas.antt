@@ -7,7 +7,9 @@ use Rattle.naptr_rule.specs.declared.rule.Naptr.{Naptr}
 use Rattle.service_field.specs.declared.kind.Kind.TheVariants as kind
 use Rattle.subst_expr.specs.Output.{IsOutput}
 use Rattle.subst_expr.specs.Laws.{OneOutput}
-use Rattle.ddds_walk.specs.Rules.{Client, GivesAs, Yields, GivesName, HasOutput, HasReplacement, IsUri}
+use Rattle.ddds_walk.specs.Rules.{Client, GivesAs, Yields, GivesName, HasOutput}
+use Rattle.rule_check.specs.Fields.{HasReplacement}
+use Rattle.rule_check.specs.Uris.{IsUri}
 use Rattle.ddds_walk.specs.declared.edge.Edge.{Edge}
 use Rattle.ddds_walk.specs.declared.edge.Edge.TheVariants.{Step, Stop}
 use Rattle.ddds_walk.specs.declared.report.Outcome.TheVariants.{Uri, Target, Unserved}

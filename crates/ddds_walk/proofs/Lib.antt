@@ -20,7 +20,6 @@ pub mod Sound
 pub mod Asks
 pub mod GiftLemmas
 pub mod FollowLemmas
-pub mod UriLemmas
 pub mod Entering
 pub mod Whole
 pub mod Deciding

@@ -22,7 +22,8 @@ use Rattle.ddds_walk.specs.declared.edge.Edge.TheVariants.{Step, Stop}
 use Rattle.ddds_walk.specs.declared.report.Outcome.{Outcome}
 use Rattle.ddds_walk.specs.declared.report.Outcome.TheVariants.{Uri, Target, Unserved}
 use Rattle.ddds_walk.specs.Graph.{graph_of}
-use Rattle.ddds_walk.specs.Rules.{Client, HasRegexp, HasReplacement, GivesName, Yields, Gives, AreFollowed, IsEdgeOf, IsEdge}
+use Rattle.ddds_walk.specs.Rules.{Client, GivesName, Yields, Gives, AreFollowed, IsEdgeOf, IsEdge}
+use Rattle.rule_check.specs.Fields.{HasRegexp, HasReplacement}
 use Rattle.ddds_walk.specs.Ways.{IsGraph}
 
 -- REGEXP and REPLACEMENT exclude each other

@@ -1,9 +1,7 @@
 -- Which rules a client may follow from a domain, and what each gives (RFC 3402, section 3; RFC 3403, sections 4 and 6).
 -- Which rules are admissible, and that the least ORDER is taken among these, is this project's own.
-use Rattle.std.specs.Prelude.{◌≡◌, ◌≢◌, ◌↔◌, ◌⊎◌, ℕ, ◌<◌, ◌≤◌, Bool, true, ◌&&◌, ◌||◌, ◌==◌, nat_le, List, [], ◌∷◌}
-use Rattle.std.specs.Prelude.{◌++◌, length, slice_get, Contains, Option, Some, Ok}
-use Rattle.std.specs.Char.{is_ascii_alphabetic, is_ascii_digit}
-use Rattle.std.specs.List.{AllPass}
+use Rattle.std.specs.Prelude.{◌≡◌, ◌↔◌, ◌⊎◌, ℕ, ◌<◌, ◌≤◌, Bool, true, List, []}
+use Rattle.std.specs.Prelude.{length, slice_get, Contains, Option, Some, Ok}
 use Rattle.dns_name.specs.Name.{folded_labels}
 use Rattle.dns_name.specs.Reading.{name_of}
 use Rattle.naptr_data.specs.Zones.{Labels, Zone, IsOffer, IsRising}
@@ -13,6 +11,8 @@ use Rattle.naptr_rule.specs.declared.rule.Naptr.{Naptr}
 use Rattle.service_field.specs.Applications.{Meaning}
 use Rattle.service_field.specs.declared.kind.Kind.{Kind}
 use Rattle.service_field.specs.declared.kind.Kind.TheVariants as kind
+use Rattle.rule_check.specs.Fields.{HasFields, HasRegexp, HasReplacement}
+use Rattle.rule_check.specs.Uris.{IsUri}
 use Rattle.subst_expr.specs.Output.{IsOutput}
 use Rattle.ddds_walk.specs.declared.edge.Edge.{Edge}
 use Rattle.ddds_walk.specs.declared.edge.Edge.TheVariants.{Step, Stop}
@@ -41,44 +41,11 @@ pub record HasOutput (rule : Naptr) (string bytes : List ℕ) : Type 0 where
   pub some : 0 < length bytes
   pub most : length bytes ≤ 1024
 
--- a byte of a scheme after its first letter (RFC 3986, 3.1)
-abbrev pub is_scheme_byte : ℕ → Bool
-is_scheme_byte b = is_ascii_alphabetic b || is_ascii_digit b || b == 43 || b == 45 || b == 46
-
-abbrev pub is_visible : ℕ → Bool
-is_visible b = nat_le 33 b && nat_le b 126
-
--- a URI: a letter, letters, digits, `+`, `-` or `.`, a colon, and at least one byte, all visible (RFC 3986, 3)
-pub record IsUri (bytes : List ℕ) : Type 0 where
-  pub first : ℕ
-  pub scheme : List ℕ
-  pub rest : List ℕ
-  pub parts : bytes ≡ first ∷ (scheme ++ 58 ∷ rest)
-  pub letter : is_ascii_alphabetic first ≡ true
-  pub scheme_bytes : AllPass is_scheme_byte scheme
-  pub some : 0 < length rest
-  pub visible : AllPass is_visible rest
-
--- REGEXP alone is there, or REPLACEMENT alone (RFC 3403, 4.1)
-abbrev pub HasRegexp : Naptr → Type 0
-HasRegexp rule = (rule.regexp ≢ []) × (rule.replacement ≡ [])
-
-abbrev pub HasReplacement : Naptr → Type 0
-HasReplacement rule = (rule.regexp ≡ []) × (rule.replacement ≢ [])
-
 -- REGEXP gives this domain: its output reads as a name, of which the root is the origin
 abbrev pub GivesName : Naptr → List ℕ → Labels → Type 0
 GivesName rule string domain =
     (bytes : List ℕ) × (labels : Labels) × HasOutput rule string bytes × (name_of bytes (Some []) ≡ Ok labels)
     × (domain ≡ folded_labels labels)
-
--- which of the two a rule has by the kind of its flags (RFC 3403, 4.1); one that is not terminal has REGEXP only where the
--- application allows it
-abbrev pub HasFields : Kind → (by_regexp : Bool) → Naptr → Type 0
-HasFields kind.Step by_regexp rule = HasReplacement rule ⊎ ((by_regexp ≡ true) × HasRegexp rule)
-HasFields kind.TerminalUri by_regexp rule = HasRegexp rule
-HasFields (kind.TerminalName letter) by_regexp rule = HasReplacement rule
-HasFields kind.Unknown by_regexp rule = ⊥
 
 -- its services serve what is wanted; a rule that is not terminal may have none
 abbrev pub HasServices : Kind → Client → Naptr → Type 0

@@ -13,7 +13,6 @@ mod laws;
 mod output;
 mod report;
 mod rule_edge;
-mod uri;
 mod walker;
 mod walking;
 
@@ -22,4 +21,5 @@ pub use laws::{
     all_needed, loop_needed, needed_bound, needed_count, one_loop, one_report, some_report,
 };
 pub use report::{End, Ends, LoopPath, Outcome, Report};
+pub use rule_check::{RuleFault, check_rule, one_rule_fault, rule_or_fault};
 pub use walking::walk;

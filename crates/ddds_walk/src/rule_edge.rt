@@ -1,19 +1,19 @@
 //! The edge of a rule.
-ghost use Rattle.std.specs.Prelude.{◌≡◌, ◌↔◌, [], IsTrue, IfOk, MatchOption};
+ghost use Rattle.std.specs.Prelude.{IfOk, MatchOption};
 ghost use Rattle.naptr_data.specs.Zones.{Labels};
 ghost use Rattle.service_field.specs.declared.kind.Kind.TheVariants as Kind;
 ghost use Rattle.ddds_walk.specs.Clients.{meant};
-ghost use Rattle.ddds_walk.specs.Rules.{Gives, GivesAs, GivesName, HasRegexp, HasReplacement, IsAdmissible};
+ghost use Rattle.ddds_walk.specs.Rules.{Gives, GivesAs, GivesName, IsAdmissible};
 ghost use Rattle.ddds_walk.specs.declared.edge.Edge.{Edge};
 
 use crate::client::Client;
 use crate::edge::Edge;
 use crate::output::output_of;
 use crate::report::Outcome;
-use crate::uri::is_uri;
 use dns_name::Name;
 use enum_base::{MemoryFault, Text255};
 use naptr_data::Naptr;
+use rule_check::{has_regexp, has_replacement, is_uri};
 use service_field::{DddsApp, Kind};
 use std::alloc::Global;
 use subst_expr::laws::one_output;
@@ -95,26 +95,6 @@ fn target_of<P: DddsApp>(client: &Client<'_, P>, letter: u8, rule: &Naptr) -> Op
     } else {
         None
     }
-}
-
-// Whether REGEXP alone is there.
-fn has_regexp(rule: &Naptr) -> bool
-    ensures { IsTrue result ↔ HasRegexp rule.now }
-{
-    !rule.regexp.as_bytes().is_empty() && is_root(rule.replacement)
-}
-
-// Whether REPLACEMENT alone is there.
-fn has_replacement(rule: &Naptr) -> bool
-    ensures { IsTrue result ↔ HasReplacement rule.now }
-{
-    rule.regexp.as_bytes().is_empty() && !is_root(rule.replacement)
-}
-
-fn is_root(name: Name) -> bool
-    ensures { IsTrue result ↔ (name ≡ []) }
-{
-    name == Name::root()
 }
 
 // The folded domain that REGEXP gives.

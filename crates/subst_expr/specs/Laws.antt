@@ -1,8 +1,10 @@
 -- That rules have one answer, as statements (this project's own).
-use Rattle.std.specs.Prelude.{◌≡◌, ◌≢◌, ◌⊎◌, ℕ, List, Result}
+use Rattle.std.specs.Prelude.{◌≡◌, ◌≢◌, ◌⊎◌, ℕ, List, Result, Ok}
 use Rattle.posix_ere.specs.Tree.{Tree}
 use Rattle.subst_expr.specs.Regexp.{HasTree, IsWellFormed, IsRegexpFault}
 use Rattle.subst_expr.specs.Output.{IsOutput, IsUnmatched}
+use Rattle.subst_expr.specs.Pieces.{Piece}
+use Rattle.subst_expr.specs.Replacement.{HasPieces}
 use Rattle.subst_expr.specs.Split.{Splits}
 use Rattle.subst_expr.specs.declared.subst.Subst.{Subst}
 use Rattle.subst_expr.specs.declared.subst.SubstFault.{SubstFault}
@@ -12,6 +14,10 @@ use Rattle.subst_expr.specs.declared.regexp.RegexpFault.TheVariants.{Memory}
 -- a text has one answer of the split
 abbrev pub OneSplit : Type 0
 OneSplit = (text : List ℕ) (one other : Result Subst SubstFault) → Splits text one → Splits text other → one ≡ other
+
+-- the replacement of a split is written with pieces
+abbrev pub SplitHasPieces : Type 0
+SplitHasPieces = (text : List ℕ) (s : Subst) → Splits text (Ok s) → (pieces : List Piece) × HasPieces s pieces
 
 -- a text has one fault at most, want of memory apart
 abbrev pub OneFault : Type 0

@@ -1,6 +1,6 @@
 //! That rules have an answer, and one alone. Each function does nothing: its contract is a law, proved like any other contract.
 ghost use Rattle.subst_expr.specs.Laws.{OneSplit, OneFault, OneReading, WellFormedHasNoFault, OneOutput, UnmatchedHasNoOutput};
-ghost use Rattle.subst_expr.specs.Laws.{FormedOrFault, OutputOrUnmatched, OutputOrNone};
+ghost use Rattle.subst_expr.specs.Laws.{FormedOrFault, OutputOrUnmatched, OutputOrNone, SplitHasPieces};
 
 use posix_ere::{has_one_fault, has_one_tree};
 use submatch::laws::best_match;
@@ -8,6 +8,11 @@ use submatch::laws::best_match;
 /// A text has one split, or one fault of the split.
 pub fn one_split()
     ensures { OneSplit }
+{}
+
+/// The replacement of a split is made of bytes and pairs.
+pub fn split_has_pieces()
+    ensures { SplitHasPieces }
 {}
 
 /// A text has one fault at most, want of memory apart.

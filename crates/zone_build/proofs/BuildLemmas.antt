@@ -16,13 +16,13 @@ use Rattle.dns_wire.specs.Rdata.{rdata_of}
 use Rattle.dns_wire.specs.declared.record.Record.{Record}
 use Rattle.zone_build.specs.Zone.{Zone, IsPlain, AreOneSet, AreRepeats, IsRising, IsCanonical, IsSet, IsWildcard, IsValid, weight}
 use Rattle.zone_build.specs.Built.{IsFirstRepeat, IsKept, IsBuilt}
-use Rattle.zone_build.specs.Faults.{HasSoa, HasOneStart, IsInside, Clashes, IsFirst, IsWildcardCut, IsLarge, AreUnmixed}
-use Rattle.zone_build.specs.Building.{Given, AreGivens, IsEarliest, AreMerged, IsAtStart, IsKeptOf, IsMixedAt, IsFirstMixed}
-use Rattle.zone_build.specs.declared.key.Key.TheVariants.{Whole}
+use Rattle.zone_build.specs.Faults.{HasSoa, HasOneSoa, IsInside, Clashes, IsFirst, IsWildcardCut, IsLarge, AreUnmixed}
+use Rattle.zone_build.specs.Building.{Given, AreGivens, IsEarliest, AreMerged, IsSoaAs, IsKeptOf, IsMixedAt, IsFirstMixed}
+use Rattle.zone_build.specs.declared.entry.Key.TheVariants.{Whole}
 use Rattle.zone_build.proofs.ListLemmas.{AllByRecursion-made}
 use Rattle.zone_build.proofs.OrderLemmas.{alike_equal, alike_sym, alike_trans}
 use Rattle.zone_build.proofs.MergeLemmas.{kept_repeats}
-use Rattle.zone_build.proofs.StartLemmas.{first_found, first_in, first_same}
+use Rattle.zone_build.proofs.SoaLemmas.{first_found, first_in, first_same}
 use Rattle.zone_build.proofs.SizeLemmas.{set_same_name}
 use Rattle.naptr_data.proofs.DecideLemmas.{Either}
 use Rattle.zone_build.proofs.DecideLemmas.{repeats_or_not, wildcard_folded}
@@ -36,36 +36,36 @@ pub entry_in : (given : List Record) (entries : List Given) → AreGivens given 
 entry_in given entries are one (k, l, is) = (record { place = k; given = one }, are.all k one l is, refl)
 
 -- no SOA
-pub no_start : (given : List Record) (entries : List Given) → AreGivens given entries
+pub no_soa : (given : List Record) (entries : List Given) → AreGivens given entries
     → ((e : Given) → Contains entries e → ¬ (e.given.kind ≡ soa)) → ¬ HasSoa given
-no_start given entries are none (one, c, k) =
+no_soa given entries are none (one, c, k) =
     let e = entry_in given entries are one c in none e.0 e.1 (ap (λ (r : Record). r.kind) e.2 ∙ k)
 
-pub has_start : (given : List Record) (entries : List Given) (start : Given) → AreGivens given entries
-    → Contains entries start → start.given.kind ≡ soa → HasSoa given
-has_start given entries start are c k = (start.given, given_in given entries are start c, k)
+pub has_soa : (given : List Record) (entries : List Given) (the_soa : Given) → AreGivens given entries
+    → Contains entries the_soa → the_soa.given.kind ≡ soa → HasSoa given
+has_soa given entries the_soa are c k = (the_soa.given, given_in given entries are the_soa c, k)
 
 -- one SOA
-pub one_start : (given : List Record) (entries : List Given) (start : Given) → AreGivens given entries
-    → ((e : Given) → Contains entries e → e.given.kind ≡ soa → AreRepeats start.given e.given) → HasOneStart given
-one_start given entries start are all one other c d k l =
+pub one_soa_of : (given : List Record) (entries : List Given) (the_soa : Given) → AreGivens given entries
+    → ((e : Given) → Contains entries e → e.given.kind ≡ soa → AreRepeats the_soa.given e.given) → HasOneSoa given
+one_soa_of given entries the_soa are all one other c d k l =
     let e = entry_in given entries are one c in
     let f = entry_in given entries are other d in
-    let a = subst (AreRepeats start.given) e.2 (all e.0 e.1 (ap (λ (r : Record). r.kind) e.2 ∙ k)) in
-    let b = subst (AreRepeats start.given) f.2 (all f.0 f.1 (ap (λ (r : Record). r.kind) f.2 ∙ l)) in
-    alike_trans Whole one start.given other (alike_sym Whole start.given one a) b
+    let a = subst (AreRepeats the_soa.given) e.2 (all e.0 e.1 (ap (λ (r : Record). r.kind) e.2 ∙ k)) in
+    let b = subst (AreRepeats the_soa.given) f.2 (all f.0 f.1 (ap (λ (r : Record). r.kind) f.2 ∙ l)) in
+    alike_trans Whole one the_soa.given other (alike_sym Whole the_soa.given one a) b
 
-pub start_repeats : (given : List Record) (entries : List Given) (start : Given) → AreGivens given entries
-    → Contains entries start → start.given.kind ≡ soa → HasOneStart given → (e : Given) → Contains entries e
-    → e.given.kind ≡ soa → AreRepeats start.given e.given
-start_repeats given entries start are c k one e d l = one start.given e.given (given_in given entries are start c) (given_in given entries are e d) k l
+pub soa_repeats : (given : List Record) (entries : List Given) (the_soa : Given) → AreGivens given entries
+    → Contains entries the_soa → the_soa.given.kind ≡ soa → HasOneSoa given → (e : Given) → Contains entries e
+    → e.given.kind ≡ soa → AreRepeats the_soa.given e.given
+soa_repeats given entries the_soa are c k one e d l = one the_soa.given e.given (given_in given entries are the_soa c) (given_in given entries are e d) k l
 
 -- the apex is the folded owner of each SOA
-pub apex_of : (given : List Record) (entries : List Given) (start : Given) (apex : Labels) → AreGivens given entries
-    → Contains entries start → start.given.kind ≡ soa → apex ≡ folded_labels start.given.owner → HasOneStart given
+pub apex_of : (given : List Record) (entries : List Given) (the_soa : Given) (apex : Labels) → AreGivens given entries
+    → Contains entries the_soa → the_soa.given.kind ≡ soa → apex ≡ folded_labels the_soa.given.owner → HasOneSoa given
     → (one : Record) → Contains given one → one.kind ≡ soa → apex ≡ folded_labels one.owner
-apex_of given entries start apex are c k is one_soa one d l =
-    is ∙ (one_soa start.given one (given_in given entries are start c) d k l).0.0
+apex_of given entries the_soa apex are c k is one_soa one d l =
+    is ∙ (one_soa the_soa.given one (given_in given entries are the_soa c) d k l).0.0
 
 apex_same : (apex owner : Labels) → apex ≡ folded_labels owner → AreSame apex owner
 apex_same apex owner is = ap folded_labels is ∙ sym (same_folded owner)
@@ -74,12 +74,12 @@ apex_same apex owner is = ap folded_labels is ∙ sym (same_folded owner)
 pub inside_of : (given : List Record) (apex : Labels)
     → ((one : Record) → Contains given one → one.kind ≡ soa → apex ≡ folded_labels one.owner) → (r : Record)
     → IsBelow r.owner apex → IsInside given r
-inside_of given apex is r b start c k = below_same_top r.owner apex start.owner (apex_same apex start.owner (is start c k)) b
+inside_of given apex is r b the_soa c k = below_same_top r.owner apex the_soa.owner (apex_same apex the_soa.owner (is the_soa c k)) b
 
 pub of_inside : (given : List Record) (apex : Labels) → HasSoa given
     → ((one : Record) → Contains given one → one.kind ≡ soa → apex ≡ folded_labels one.owner) → (r : Record)
     → IsInside given r → IsBelow r.owner apex
-of_inside given apex (start, c, k) is r i = below_same_top r.owner start.owner apex (sym (apex_same apex start.owner (is start c k))) (i start c k)
+of_inside given apex (the_soa, c, k) is r i = below_same_top r.owner the_soa.owner apex (sym (apex_same apex the_soa.owner (is the_soa c k))) (i the_soa c k)
 
 -- the first record outside
 pub outside_first : (given : List Record) (apex : Labels) (place : ℕ) (one : Record) → HasSoa given
@@ -179,62 +179,62 @@ kept_first : (given : List Record) (entries : List Given) (e : Given) (kept : Re
 kept_first given entries e kept are c (ttl, least, copy, first) =
     first_repeat given entries e kept are c first (kept_repeats entries e kept (ttl, least, copy, first))
 
-at_start : (n : ℕ) → (n == soa) ≡ true → n ≡ soa
-at_start n e = grind (arith, nat_tests)
+is_soa_kind : (n : ℕ) → (n == soa) ≡ true → n ≡ soa
+is_soa_kind n e = grind (arith, nat_tests)
 
-not_at_start : (n : ℕ) → (n == soa) ≡ false → n ≢ soa
-not_at_start n e f = grind (arith, nat_tests)
+is_other_kind : (n : ℕ) → (n == soa) ≡ false → n ≢ soa
+is_other_kind n e f = grind (arith, nat_tests)
 
-starts : (n : ℕ) → n ≡ soa → (n == soa) ≡ true
-starts n e = ap (λ k. k == soa) e
+soa_kind_is : (n : ℕ) → n ≡ soa → (n == soa) ≡ true
+soa_kind_is n e = ap (λ k. k == soa) e
 
-start_or_not : (n : ℕ) → ((n == soa) ≡ true) ⊎ ((n == soa) ≡ false)
-start_or_not n = elim (n == soa) as (λ b. (b ≡ true) ⊎ (b ≡ false)) [ true ↦ inl refl | false ↦ inr refl ]
+soa_or_not : (n : ℕ) → ((n == soa) ≡ true) ⊎ ((n == soa) ≡ false)
+soa_or_not n = elim (n == soa) as (λ b. (b ≡ true) ⊎ (b ≡ false)) [ true ↦ inl refl | false ↦ inr refl ]
 
 -- rising records that are repeats of each other are one at most
 one_rising : (a b : Record) (rest : List Record) → IsRising (a ∷ b ∷ rest) → AreRepeats a b → ⊥
 one_rising a b rest r same = cc (sym r.0.0, alike_equal Whole a b same)
 
 -- what is kept of the SOA records is one record, and what is kept of the others
-pub record IsParted (given : List Record) (start : Record) (others : List Record) : Type 0 where
-  pub kind : start.kind ≡ soa
+pub record IsParted (given : List Record) (the_soa : Record) (others : List Record) : Type 0 where
+  pub kind : the_soa.kind ≡ soa
   pub none : AllByRecursion (λ one. one.kind ≢ soa) others
   pub rising : IsRising others
 
 parted : (given : List Record) (entries : List Given) (first others : List Record) → AreGivens given entries
-    → HasSoa given → HasOneStart given → AreMerged (IsAtStart true) (IsKeptOf entries) entries first
-    → AreMerged (IsAtStart false) (IsKeptOf entries) entries others
-    → (start : Record) × (first ≡ start ∷ []) × IsParted given start others
+    → HasSoa given → HasOneSoa given → AreMerged (IsSoaAs true) (IsKeptOf entries) entries first
+    → AreMerged (IsSoaAs false) (IsKeptOf entries) entries others
+    → (the_soa : Record) × (first ≡ the_soa ∷ []) × IsParted given the_soa others
 parted given entries [] others are (one, c, k) only a b =
     let e = entry_in given entries are one c in
-    let f = a.each e.0 e.1 (starts e.0.given.kind (ap (λ (r : Record). r.kind) e.2 ∙ k)) in
+    let f = a.each e.0 e.1 (soa_kind_is e.0.given.kind (ap (λ (r : Record). r.kind) e.2 ∙ k)) in
     absurd (Contains-none f.0 f.1)
-parted given entries (start ∷ []) others are has only a b =
-    let f = a.from start (Contains-head start []) in (
-      start,
+parted given entries (the_soa ∷ []) others are has only a b =
+    let f = a.from the_soa (Contains-head the_soa []) in (
+      the_soa,
       refl,
       record {
-        kind = f.3.2.kind ∙ at_start f.0.given.kind f.2;
+        kind = f.3.2.kind ∙ is_soa_kind f.0.given.kind f.2;
         none = AllByRecursion-made (λ (one : Record). one.kind ≢ soa) others (λ r c k.
-            let g = b.from r c in not_at_start g.0.given.kind g.2 (sym g.3.2.kind ∙ k));
+            let g = b.from r c in is_other_kind g.0.given.kind g.2 (sym g.3.2.kind ∙ k));
         rising = b.rising;
       },
     )
-parted given entries (start ∷ next ∷ more) others are has only a b =
-    let f = a.from start (Contains-head start (next ∷ more)) in
-    let g = a.from next (Contains-after start (next ∷ more) next (Contains-head next more)) in
+parted given entries (the_soa ∷ next ∷ more) others are has only a b =
+    let f = a.from the_soa (Contains-head the_soa (next ∷ more)) in
+    let g = a.from next (Contains-after the_soa (next ∷ more) next (Contains-head next more)) in
     let same = only f.0.given g.0.given (given_in given entries are f.0 f.1) (given_in given entries are g.0 g.1)
-    (at_start f.0.given.kind f.2) (at_start g.0.given.kind g.2) in
-    absurd (one_rising start next more a.rising
-    (alike_trans Whole start f.0.given next (alike_sym Whole f.0.given start (kept_repeats entries f.0 start f.3))
+    (is_soa_kind f.0.given.kind f.2) (is_soa_kind g.0.given.kind g.2) in
+    absurd (one_rising the_soa next more a.rising
+    (alike_trans Whole the_soa f.0.given next (alike_sym Whole f.0.given the_soa (kept_repeats entries f.0 the_soa f.3))
     (alike_trans Whole f.0.given g.0.given next same (kept_repeats entries g.0 next g.3))))
 
 -- the zone of the kept records is the one that the given records make
 pub built_of : (given : List Record) (entries : List Given) (apex : Labels) (first others : List Record)
-    → AreGivens given entries → HasSoa given → HasOneStart given
+    → AreGivens given entries → HasSoa given → HasOneSoa given
     → ((one : Record) → Contains given one → one.kind ≡ soa → apex ≡ folded_labels one.owner)
-    → AreMerged (IsAtStart true) (IsKeptOf entries) entries first
-    → AreMerged (IsAtStart false) (IsKeptOf entries) entries others
+    → AreMerged (IsSoaAs true) (IsKeptOf entries) entries first
+    → AreMerged (IsSoaAs false) (IsKeptOf entries) entries others
     → IsBuilt given (record { apex = apex; records = first ++ others })
 built_of given entries apex first others are has only is a b = record {
   apex = is;
@@ -244,9 +244,9 @@ built_of given entries apex first others are has only is a b = record {
   ];
   all = λ one c.
       let e = entry_in given entries are one c in
-      elim (start_or_not e.0.given.kind) [
-        | inl start ↦
-            let f = a.each e.0 e.1 start in
+      elim (soa_or_not e.0.given.kind) [
+        | inl the_soa ↦
+            let f = a.each e.0 e.1 the_soa in
             (f.0, Contains-append_left first others f.0 f.1, subst (λ (x : Record). AreRepeats x f.0) e.2 f.2)
         | inr other ↦
             let f = b.each e.0 e.1 other in
@@ -292,7 +292,7 @@ valid_of given zone plain free built small cuts = record {
       let p = plain f.0 f.1 in
       record { class = f.2.class ∙ p.class; whole = subst (λ x. IsTrue (is_whole x)) (sym f.2.content) p.whole };
   order = built.order;
-  start = λ kept c k.
+  soa = λ kept c k.
       let f = kept_from given zone built kept c in f.2.owner ∙ sym (built.apex f.0 f.1 (sym f.2.kind ∙ k));
   folded = λ kept c. let f = kept_from given zone built kept c in ap folded_labels f.2.owner ∙ sym (same_folded f.0.owner) ∙ sym f.2.owner;
   inside = λ kept c.

@@ -7,38 +7,38 @@ use Rattle.dns_wire.specs.declared.record.Record.{Record}
 use Rattle.zone_build.specs.Zone.{Zone, IsCanonical, IsPlain, IsRising, IsValid}
 use Rattle.zone_build.specs.Built.{IsBuilt}
 use Rattle.zone_build.specs.Faults.{IsFirst, IsWildcardCut, IsLarge, AreInside, AreUnmixed, IsZoneFault}
-use Rattle.zone_build.specs.Building.{Given, AreGivens, IsFirstMixed, IsFirstLarge, IsFirstCut, IsApex, IsEntryApex, IsStartFault, IsPlan, IsLastFault}
+use Rattle.zone_build.specs.Building.{Given, AreGivens, IsFirstMixed, IsFirstLarge, IsFirstCut, IsApex, IsEntryApex, IsSoaFault, IsPlan, IsLastFault}
 use Rattle.zone_build.specs.declared.keep.Keep.{Keep}
 use Rattle.zone_build.specs.declared.fault.ZoneFault.{ZoneFault}
 use Rattle.zone_build.specs.declared.fault.ZoneFault.TheVariants as fault
-use Rattle.zone_build.proofs.BuildLemmas.{no_start, has_start, one_start, start_repeats, apex_of, inside_of, outside_first, unmixed_of, mixed_first, valid_of}
-use Rattle.zone_build.proofs.LargeLemmas.{first_at_start, first_after, none_at_all}
+use Rattle.zone_build.proofs.BuildLemmas.{no_soa, has_soa, one_soa_of, soa_repeats, apex_of, inside_of, outside_first, unmixed_of, mixed_first, valid_of}
+use Rattle.zone_build.proofs.LargeLemmas.{first_at_soa, first_after, none_at_all}
 
-pub start_fault : (given : List Record) (entries : List Given) (f : ZoneFault) → AreGivens given entries → IsStartFault entries f → IsZoneFault given f
-start_fault given entries fault.NoSoa are none = no_start given entries are none
-start_fault given entries fault.TwoSoa are (start, c, k, not) =
-    (has_start given entries start are c k, λ one. not (start_repeats given entries start are c k one))
-start_fault given entries (fault.OutOfZone place) are h = absurd h
-start_fault given entries (fault.AliasClash name) are h = absurd h
-start_fault given entries (fault.SetTooLarge name kind) are h = absurd h
-start_fault given entries (fault.WildcardCut name) are h = absurd h
-start_fault given entries fault.Memory are h = absurd h
+pub soa_fault : (given : List Record) (entries : List Given) (f : ZoneFault) → AreGivens given entries → IsSoaFault entries f → IsZoneFault given f
+soa_fault given entries fault.NoSoa are none = no_soa given entries are none
+soa_fault given entries fault.TwoSoa are (the_soa, c, k, not) =
+    (has_soa given entries the_soa are c k, λ one. not (soa_repeats given entries the_soa are c k one))
+soa_fault given entries (fault.OutOfZone place) are h = absurd h
+soa_fault given entries (fault.AliasClash name) are h = absurd h
+soa_fault given entries (fault.SetTooLarge name kind) are h = absurd h
+soa_fault given entries (fault.WildcardCut name) are h = absurd h
+soa_fault given entries fault.Memory are h = absurd h
 
 is_apex : (given : List Record) (entries : List Given) (apex : Labels) → AreGivens given entries → IsEntryApex entries apex → IsApex given apex
-is_apex given entries apex are (start, c, k, is, all) = apex_of given entries start apex are c k is (one_start given entries start are all)
+is_apex given entries apex are (the_soa, c, k, is, all) = apex_of given entries the_soa apex are c k is (one_soa_of given entries the_soa are all)
 
 pub outside_fault : (given : List Record) (entries : List Given) (apex : Labels) (place : ℕ) → AreGivens given entries
     → IsEntryApex entries apex → (one : Record) × IsFirst (λ r. ¬ IsBelow r.owner apex) given place one
     → IsZoneFault given (fault.OutOfZone place)
 outside_fault given entries apex place are e (one, f) =
-    let has = has_start given entries e.0 are e.1 e.2 in
-    (has, one_start given entries e.0 are e.4, (one, outside_first given apex place one has (is_apex given entries apex are e) f))
+    let has = has_soa given entries e.0 are e.1 e.2 in
+    (has, one_soa_of given entries e.0 are e.4, (one, outside_first given apex place one has (is_apex given entries apex are e) f))
 
 pub all_inside : (given : List Record) (entries : List Given) (apex : Labels) → AreGivens given entries
     → IsEntryApex entries apex → ((one : Record) → Contains given one → IsBelow one.owner apex) → AreInside given
 all_inside given entries apex are e below = record {
-  some = has_start given entries e.0 are e.1 e.2;
-  one = one_start given entries e.0 are e.4;
+  some = has_soa given entries e.0 are e.1 e.2;
+  one = one_soa_of given entries e.0 are e.4;
   inside = λ one c. inside_of given apex (is_apex given entries apex are e) one (below one c);
 }
 
@@ -57,26 +57,26 @@ unmixed_apex given entries apex are e below none =
     (record { inside = all_inside given entries apex are e below; unmixed = unmixed_of given entries are none }, is_apex given entries apex are e)
 
 -- the first large set of canonical records, by that of the SOA and that of the others
-pub large_at_start : (kept start : List Record) (place : ℕ) → IsCanonical kept → start ≡ take 1 kept
-    → IsFirstLarge start (Some place) → IsFirstLarge kept (Some 0)
-large_at_start [] start place c is f = absurd c
-large_at_start (a ∷ others) start place c is f = first_at_start a others place c (subst (λ l. IsFirstLarge l (Some place)) is f)
+pub large_at_soa : (kept the_soa : List Record) (place : ℕ) → IsCanonical kept → the_soa ≡ take 1 kept
+    → IsFirstLarge the_soa (Some place) → IsFirstLarge kept (Some 0)
+large_at_soa [] the_soa place c is f = absurd c
+large_at_soa (a ∷ others) the_soa place c is f = first_at_soa a others place c (subst (λ l. IsFirstLarge l (Some place)) is f)
 
-pub large_after_start : (kept start others : List Record) (place : ℕ) → IsCanonical kept → start ≡ take 1 kept
-    → others ≡ drop 1 kept → IsFirstLarge start None → IsFirstLarge others (Some place)
+pub large_after_soa : (kept the_soa others : List Record) (place : ℕ) → IsCanonical kept → the_soa ≡ take 1 kept
+    → others ≡ drop 1 kept → IsFirstLarge the_soa None → IsFirstLarge others (Some place)
     → IsFirstLarge kept (Some (place + 1))
-large_after_start [] start others place c is is' none f = absurd c
-large_after_start (a ∷ rest) start others place c is is' none f =
+large_after_soa [] the_soa others place c is is' none f = absurd c
+large_after_soa (a ∷ rest) the_soa others place c is is' none f =
     first_after a rest place c (subst (λ l. IsFirstLarge l None) is none) (subst (λ l. IsFirstLarge l (Some place)) is' f)
 
-pub large_nowhere : (kept start others : List Record) → IsCanonical kept → start ≡ take 1 kept → others ≡ drop 1 kept
-    → IsFirstLarge start None → IsFirstLarge others None → IsFirstLarge kept None
-large_nowhere [] start others c is is' none f = absurd c
-large_nowhere (a ∷ rest) start others c is is' none f = none_at_all a rest c (subst (λ l. IsFirstLarge l None) is none) (subst (λ l. IsFirstLarge l None) is' f)
+pub large_nowhere : (kept the_soa others : List Record) → IsCanonical kept → the_soa ≡ take 1 kept → others ≡ drop 1 kept
+    → IsFirstLarge the_soa None → IsFirstLarge others None → IsFirstLarge kept None
+large_nowhere [] the_soa others c is is' none f = absurd c
+large_nowhere (a ∷ rest) the_soa others c is is' none f = none_at_all a rest c (subst (λ l. IsFirstLarge l None) is none) (subst (λ l. IsFirstLarge l None) is' f)
 
-pub canonical_rising : (kept start : List Record) → IsCanonical kept → start ≡ take 1 kept → IsRising start
-canonical_rising [] start c is = absurd c
-canonical_rising (a ∷ others) start c is = subst IsRising (sym is) (tt, tt)
+pub canonical_rising : (kept the_soa : List Record) → IsCanonical kept → the_soa ≡ take 1 kept → IsRising the_soa
+canonical_rising [] the_soa c is = absurd c
+canonical_rising (a ∷ others) the_soa c is = subst IsRising (sym is) (tt, tt)
 
 pub canonical_others : (kept others : List Record) → IsCanonical kept → others ≡ drop 1 kept → IsRising others
 canonical_others [] others c is = absurd c

@@ -1,45 +1,43 @@
 -- The records at a name among records in canonical order.
 use Rattle.std.proofs.Common.{◌≡◌, ◌≢◌, ◌⊎◌, inl, inr, ℕ, zero, suc, ◌+◌, ◌-◌, ◌<◌, ◌≤◌, List, [], ◌∷◌, ◌++◌, length}
-use Rattle.std.proofs.Common.{take, drop, get_or, Option, Some, None, Bool, true, false, refl, sym, ap, subst, ◌∙◌}
+use Rattle.std.proofs.Common.{take, drop, Option, Some, None, Bool, true, false, refl, sym, ap, subst, ◌∙◌}
 use Rattle.std.proofs.Common.{arith}
-use Rattle.std.specs.Prelude.{Contains, IsTrue, ◌↔◌, nat_lt, is_some, IfSome, IfNone}
+use Rattle.std.specs.Prelude.{Contains, IsTrue, ◌↔◌, is_some, IfSome, IfNone}
 use Rattle.std.specs.List.{AllByRecursion}
-use Rattle.std.specs.declared.cmp.Ordering.{Ordering}
 use Rattle.std.specs.declared.cmp.Ordering.TheVariants.{Less, Equal, Greater}
 use Rattle.std.specs.Ordering.{nat_cmp, ordering_then}
 use Rattle.std.proofs.lemmas.Bool.Decides.{nat_tests}
 use Rattle.std.proofs.lemmas.Cmp.{ranked}
 use Rattle.std.proofs.lemmas.List.{take-append-drop}
-use Rattle.naptr_data.proofs.CutLemmas.{Contains-head, Contains-after, Contains-none, head_or_after}
-use Rattle.naptr_data.proofs.BelowLemmas.{below_same_top, below_same_name}
+use Rattle.naptr_data.proofs.CutLemmas.{Contains-none, head_or_after}
 use Rattle.naptr_data.specs.Zones.{Labels}
 use Rattle.dns_name.specs.Name.{AreSame, IsBelow, folded_labels}
 use Rattle.dns_wire.specs.Kinds.{soa}
 use Rattle.dns_wire.specs.declared.record.Record.{Record}
 use Rattle.zone_build.specs.Zone.{Zone, IsValid, IsIn, IsSet, IsRising, IsCanonical, order_of, owner_order}
 use Rattle.zone_build.specs.Finding.{IsKindStart, IsLeastKindAt, least_kind_with}
-use Rattle.zone_build.specs.Indexing.{Indexed, ArePlaces, AllPlaces, NoneMeets, FindsOwners, IsIndex, candidates, key_of, owner_at, kind_at}
-use Rattle.zone_build.specs.declared.places.Places.{Places}
-use Rattle.zone_build.specs.declared.sought.Sought.TheVariants.{At, Below}
-use Rattle.zone_build.specs.declared.key.Key.TheVariants.{Owner, Set}
+use Rattle.zone_build.specs.Indexing.{Indexed, ArePlaces, NoneMeets, FindsOwners, IsIndex, candidates, key_of, owner_at, kind_at}
+use Rattle.zone_build.specs.declared.index.Places.{Places}
+use Rattle.zone_build.specs.declared.index.Sought.TheVariants.{At, Below}
+use Rattle.zone_build.specs.declared.entry.Key.TheVariants.{Owner, Set}
 use Rattle.zone_build.proofs.ListLemmas.{AllByRecursion-contains, AllByRecursion-made}
 use Rattle.zone_build.proofs.OrderLemmas.{three, key_not_after, alike_equal}
 use Rattle.zone_build.proofs.IndexLemmas.{record_at, place_of, same_keys, below_both, before_or_from, equal_or_after}
 
 -- a record stands at a place
-pub record StandsAt (xs : List Record) (r : Record) (k : ℕ) : Type 0 where
+pub record IsPlacedAt (xs : List Record) (r : Record) (k : ℕ) : Type 0 where
   pub within : k < length xs
   pub owner : owner_at xs k ≡ r.owner
   pub kind : kind_at xs k ≡ r.kind
 
-stands : (xs : List Record) (r : Record) → Contains xs r → (k : ℕ) × StandsAt xs r k
+stands : (xs : List Record) (r : Record) → Contains xs r → (k : ℕ) × IsPlacedAt xs r k
 stands xs r c = let f = place_of xs r c in (f.0, record { within = f.1; owner = f.2; kind = f.3 })
 
-further : (x : Record) (xs : List Record) (r : Record) (k : ℕ) → StandsAt xs r k → StandsAt (x ∷ xs) r (suc k)
+further : (x : Record) (xs : List Record) (r : Record) (k : ℕ) → IsPlacedAt xs r k → IsPlacedAt (x ∷ xs) r (suc k)
 further x xs r k s = record { within = let w = s.within in omega arith; owner = s.owner; kind = s.kind }
 
 -- before a place, from a place on, and between two
-in_front : (n : ℕ) (xs : List Record) (r : Record) → Contains (take n xs) r → (k : ℕ) × (k < n) × StandsAt xs r k
+in_front : (n : ℕ) (xs : List Record) (r : Record) → Contains (take n xs) r → (k : ℕ) × (k < n) × IsPlacedAt xs r k
 in_front zero xs r c = absurd (Contains-none r c)
 in_front (suc n) [] r c = absurd (Contains-none r c)
 in_front (suc n) (x ∷ xs) r c = elim (head_or_after x (take n xs) r c) [
@@ -47,19 +45,19 @@ in_front (suc n) (x ∷ xs) r c = elim (head_or_after x (take n xs) r c) [
   | inr after ↦ let f = in_front n xs r after in let l = f.1 in (suc f.0, omega arith, further x xs r f.0 f.2)
 ]
 
-in_back : (n : ℕ) (xs : List Record) (r : Record) → Contains (drop n xs) r → (k : ℕ) × (n ≤ k) × StandsAt xs r k
+in_back : (n : ℕ) (xs : List Record) (r : Record) → Contains (drop n xs) r → (k : ℕ) × (n ≤ k) × IsPlacedAt xs r k
 in_back zero xs r c = let f = stands xs r c in (f.0, omega arith, f.1)
 in_back (suc n) [] r c = absurd (Contains-none r c)
 in_back (suc n) (x ∷ xs) r c = let f = in_back n xs r c in let l = f.1 in (suc f.0, omega arith, further x xs r f.0 f.2)
 
-in_middle : (from n : ℕ) (xs : List Record) (r : Record) → Contains (take n (drop from xs)) r → (k : ℕ) × (from ≤ k) × (k < from + n) × StandsAt xs r k
+in_middle : (from n : ℕ) (xs : List Record) (r : Record) → Contains (take n (drop from xs)) r → (k : ℕ) × (from ≤ k) × (k < from + n) × IsPlacedAt xs r k
 in_middle zero n xs r c = let f = in_front n xs r c in let l = f.1 in (f.0, omega arith, omega arith, f.2)
 in_middle (suc from) zero [] r c = absurd (Contains-none r c)
 in_middle (suc from) (suc n) [] r c = absurd (Contains-none r c)
 in_middle (suc from) n (x ∷ xs) r c =
     let f = in_middle from n xs r c in let l = f.1 in let m = f.2 in (suc f.0, omega arith, omega arith, further x xs r f.0 f.3)
 
-in_rest : (from n : ℕ) (xs : List Record) (r : Record) → Contains (drop n (drop from xs)) r → (k : ℕ) × (from + n ≤ k) × StandsAt xs r k
+in_rest : (from n : ℕ) (xs : List Record) (r : Record) → Contains (drop n (drop from xs)) r → (k : ℕ) × (from + n ≤ k) × IsPlacedAt xs r k
 in_rest zero n xs r c = let f = in_back n xs r c in let l = f.1 in (f.0, omega arith, f.2)
 in_rest (suc from) zero [] r c = absurd (Contains-none r c)
 in_rest (suc from) (suc n) [] r c = absurd (Contains-none r c)
@@ -210,14 +208,14 @@ set_made records places kind from end set c are other f e is = record {
     ordered : from ≤ end
     ordered = starts_in_order records places kind from end f e
 
-    front_none : (r : Record) (k : ℕ) → k < from → StandsAt records r k → ¬ IsIn owner kind r
+    front_none : (r : Record) (k : ℕ) → k < from → IsPlacedAt records r k → ¬ IsIn owner kind r
     front_none r zero l s i = other (sym i.1 ∙ sym s.kind ∙ (soa_first records c).1)
     front_none r (suc k) l s i = elim (before_or_from (suc k) places.first) [
       | inl h ↦ are.before (suc k) (omega arith) h (sym (ap folded_labels s.owner ∙ i.0))
       | inr h ↦ let less = f.less (suc k) h l in let same = s.kind in let of = i.1 in omega arith
     ]
 
-    back_none : (r : Record) (k : ℕ) → end ≤ k → StandsAt records r k → ¬ IsIn owner kind r
+    back_none : (r : Record) (k : ℕ) → end ≤ k → IsPlacedAt records r k → ¬ IsIn owner kind r
     back_none r k l s i = elim (before_or_from k places.end) [
       | inl h ↦ let more = e.not_less k l h in let same = s.kind in let of = i.1 in omega arith
       | inr h ↦ are.after k h s.within (sym (ap folded_labels s.owner ∙ i.0))
@@ -239,13 +237,13 @@ set_renamed records one other kind set same s = record {
 
 -- no record has that owner but the SOA
 pub owner_lacking : (records : List Record) (index : Indexed) (owner : Labels) → FindsOwners records index
-    → NoneMeets At records owner (candidates index (key_of owner)) → (k : ℕ) → 0 < k → k < length records
+    → NoneMeets At records owner (candidates index (key_of index.seed owner)) → (k : ℕ) → 0 < k → k < length records
     → ¬ AreSame (owner_at records k) owner
 owner_lacking records index owner finds none k p l same =
-    finds.owners k p l (λ one c m. none one (subst (λ n. Contains (candidates index n) one) (same_keys (owner_at records k) owner same) c) (m ∙ same))
+    finds.owners k p l (λ one c m. none one (subst (λ n. Contains (candidates index n) one) (same_keys index.seed (owner_at records k) owner same) c) (m ∙ same))
 
 pub set_lacking : (records : List Record) (index : Indexed) (owner : Labels) (kind : ℕ) (set : List Record)
-    → IsCanonical records → FindsOwners records index → NoneMeets At records owner (candidates index (key_of owner))
+    → IsCanonical records → FindsOwners records index → NoneMeets At records owner (candidates index (key_of index.seed owner))
     → kind ≢ soa → set ≡ take 0 records → IsSet records owner kind set
 set_lacking records index owner kind set c finds none other is = record {
   before = [];
@@ -256,7 +254,7 @@ set_lacking records index owner kind set c finds none other is = record {
   none_after = AllByRecursion-made (λ r. ¬ IsIn owner kind r) records (λ r k i. let g = stands records r k in at r g.0 g.1 i);
 }
   where
-    at : (r : Record) (k : ℕ) → StandsAt records r k → ¬ IsIn owner kind r
+    at : (r : Record) (k : ℕ) → IsPlacedAt records r k → ¬ IsIn owner kind r
     at r zero s i = other (sym i.1 ∙ sym s.kind ∙ (soa_first records c).1)
     at r (suc k) s i = owner_lacking records index owner finds none (suc k) (omega arith) s.within (ap folded_labels s.owner ∙ i.0)
 
@@ -292,7 +290,7 @@ soa_set_lacking (x ∷ rest) owner set c not is = record {
 -- the least kind at a name
 least_other : (records : List Record) (owner : Labels) (places : Places) → IsCanonical records
     → ArePlaces records places → AreSame (owner_at records places.first) owner → (r : Record) (k : ℕ) → 0 < k
-    → StandsAt records r k → AreSame r.owner owner → kind_at records places.first ≤ r.kind
+    → IsPlacedAt records r k → AreSame r.owner owner → kind_at records places.first ≤ r.kind
 least_other records owner places c are same r k p s of = elim (before_or_from k places.first) [
   | inl h ↦ absurd (are.before k p h here)
   | inr h ↦ elim (before_or_from k places.end) [
@@ -319,7 +317,7 @@ least_at records owner places false c are same apex not = (
   λ r k of. let g = stands records r k in at r g.0 g.1 of,
 )
   where
-    at : (r : Record) (k : ℕ) → StandsAt records r k → AreSame r.owner owner → kind_at records places.first ≤ r.kind
+    at : (r : Record) (k : ℕ) → IsPlacedAt records r k → AreSame r.owner owner → kind_at records places.first ≤ r.kind
     at r zero s of = absurd (cc (not (ap folded_labels s.owner ∙ of)))
     at r (suc k) s of = least_other records owner places c are same r (suc k) (omega arith) s of
 least_at records owner places true c are same apex not = elim (least_cases (kind_at records places.first)) [
@@ -330,26 +328,26 @@ least_at records owner places true c are same apex not = elim (least_cases (kind
         (f.0, f.1, ap folded_labels (sym f.3) ∙ same, sym f.4 ∙ sym own.0),
     λ r k of. let g = stands records r k in let e = own.0 in let l = own.1 in let m = at r g.0 g.1 of in omega arith,
   )
-  | inr start ↦ (
+  | inr at_soa ↦ (
     let w = (soa_first records c).0 in
         let f = record_at records 0 w in
-        (f.0, f.1, ap folded_labels (sym f.3) ∙ apex refl, sym f.4 ∙ (soa_first records c).1 ∙ sym start.0),
-    λ r k of. let g = stands records r k in let e = start.0 in let l = start.1 in let m = at r g.0 g.1 of in omega arith,
+        (f.0, f.1, ap folded_labels (sym f.3) ∙ apex refl, sym f.4 ∙ (soa_first records c).1 ∙ sym at_soa.0),
+    λ r k of. let g = stands records r k in let e = at_soa.0 in let l = at_soa.1 in let m = at r g.0 g.1 of in omega arith,
   )
 ]
   where
-    at : (r : Record) (k : ℕ) → StandsAt records r k → AreSame r.owner owner → least_kind_with true (kind_at records places.first) ≤ r.kind
+    at : (r : Record) (k : ℕ) → IsPlacedAt records r k → AreSame r.owner owner → least_kind_with true (kind_at records places.first) ≤ r.kind
     at r zero s of = let e = sym s.kind ∙ (soa_first records c).1 in elim (least_cases (kind_at records places.first)) [
       | inl own ↦ let p = own.0 in let q = own.1 in omega arith
-      | inr start ↦ let p = start.0 in omega arith
+      | inr at_soa ↦ let p = at_soa.0 in omega arith
     ]
     at r (suc k) s of = let m = least_other records owner places c are same r (suc k) (omega arith) s of in elim (least_cases (kind_at records places.first)) [
       | inl own ↦ let p = own.0 in let q = own.1 in omega arith
-      | inr start ↦ let p = start.0 in let q = start.1 in omega arith
+      | inr at_soa ↦ let p = at_soa.0 in let q = at_soa.1 in omega arith
     ]
 
 pub least_alone : (records : List Record) (index : Indexed) (owner : Labels) → IsCanonical records
-    → FindsOwners records index → NoneMeets At records owner (candidates index (key_of owner))
+    → FindsOwners records index → NoneMeets At records owner (candidates index (key_of index.seed owner))
     → AreSame (owner_at records 0) owner → IsLeastKindAt records owner (Some soa)
 least_alone records index owner c finds none same = (
   let w = (soa_first records c).0 in
@@ -358,16 +356,16 @@ least_alone records index owner c finds none same = (
   λ r k of. let g = stands records r k in at r g.0 g.1 of,
 )
   where
-    at : (r : Record) (k : ℕ) → StandsAt records r k → AreSame r.owner owner → soa ≤ r.kind
+    at : (r : Record) (k : ℕ) → IsPlacedAt records r k → AreSame r.owner owner → soa ≤ r.kind
     at r zero s of = let e = sym s.kind ∙ (soa_first records c).1 in omega arith
     at r (suc k) s of = absurd (owner_lacking records index owner finds none (suc k) (omega arith) s.within (ap folded_labels s.owner ∙ of))
 
 pub least_nowhere : (records : List Record) (index : Indexed) (owner : Labels) → FindsOwners records index
-    → NoneMeets At records owner (candidates index (key_of owner)) → ¬ AreSame (owner_at records 0) owner
+    → NoneMeets At records owner (candidates index (key_of index.seed owner)) → ¬ AreSame (owner_at records 0) owner
     → IsLeastKindAt records owner None
 least_nowhere records index owner finds none not r k of = let g = stands records r k in at g.0 g.1
   where
-    at : (k : ℕ) → StandsAt records r k → ⊥
+    at : (k : ℕ) → IsPlacedAt records r k → ⊥
     at zero s = not (ap folded_labels s.owner ∙ of)
     at (suc k) s = owner_lacking records index owner finds none (suc k) (omega arith) s.within (ap folded_labels s.owner ∙ of)
 
@@ -382,11 +380,11 @@ below_met records places name are below =
 
 pub below_lacking : (records : List Record) (apex name : Labels) (index : Indexed) → IsIndex records apex index
     → owner_at records 0 ≡ apex → IsBelow name apex → ¬ AreSame name apex
-    → NoneMeets Below records name (candidates index (key_of name)) → (one : Record) → Contains records one
+    → NoneMeets Below records name (candidates index (key_of index.seed name)) → (one : Record) → Contains records one
     → ¬ IsBelow one.owner name
 below_lacking records apex name index is first inside not none one c below = let g = stands records one c in at g.0 g.1
   where
-    at : (k : ℕ) → StandsAt records one k → ⊥
+    at : (k : ℕ) → IsPlacedAt records one k → ⊥
     at zero s = not (below_both name apex inside (subst (λ n. IsBelow n name) (sym s.owner ∙ first) below))
     at (suc k) s = is.names (suc k) name (omega arith) s.within (subst (λ n. IsBelow n name) (sym s.owner) below) inside not none
 
@@ -395,13 +393,13 @@ pub apex_first : (zone : Zone) → IsValid zone → owner_at zone.records 0 ≡ 
 apex_first zone v =
     let f = soa_first zone.records v.order in
     let r = record_at zone.records 0 f.0 in
-    r.3 ∙ v.start r.0 r.1 (sym r.4 ∙ f.1)
+    r.3 ∙ v.soa r.0 r.1 (sym r.4 ∙ f.1)
 
 pub has_below_iff : (records : List Record) (apex name : Labels) (index : Indexed) (o : Option Places) (b : Bool)
     → IsIndex records apex index → owner_at records 0 ≡ apex → IsBelow name apex → ¬ AreSame name apex → b ≡ is_some o
-    → IfSome o (λ one. Contains (candidates index (key_of name)) one)
+    → IfSome o (λ one. Contains (candidates index (key_of index.seed name)) one)
     → IfSome o (λ one. IsBelow (owner_at records one.first) name)
-    → IfNone o (NoneMeets Below records name (candidates index (key_of name)))
+    → IfNone o (NoneMeets Below records name (candidates index (key_of index.seed name)))
     → IsTrue b ↔ ((one : Record) × Contains records one × IsBelow one.owner name)
 has_below_iff records apex name index None b is first inside not e there meets none = (
   λ t. absurd (cc),
@@ -409,4 +407,4 @@ has_below_iff records apex name index None b is first inside not e there meets n
       (below_lacking records apex name index is first inside not none one c below),
 )
 has_below_iff records apex name index (Some places) b is first inside not e there meets none =
-    (λ t. below_met records places name (is.owners.places (key_of name) places there) meets, λ s. cc)
+    (λ t. below_met records places name (is.owners.places (key_of index.seed name) places there) meets, λ s. cc)

@@ -1,39 +1,34 @@
 -- Places of records, and the index of a zone.
 use Rattle.std.proofs.Common.{◌≡◌, ◌≢◌, ◌⊎◌, inl, inr, ℕ, zero, suc, ◌+◌, ◌<◌, ◌≤◌, List, [], ◌∷◌, ◌++◌, length, take}
-use Rattle.std.proofs.Common.{drop, get_or, Option, Some, None, Bool, true, false, cond, length-append, refl, sym, ap}
+use Rattle.std.proofs.Common.{drop, get_or, Option, Some, None, Bool, true, false, cond, append-nil, length-append, refl, sym, ap}
 use Rattle.std.proofs.Common.{subst, ◌∙◌, arith}
-use Rattle.std.specs.Prelude.{Contains, nat_eq, is_some, ◌/◌, ◌^◌, IfSome, IfNone, OnOk, Result, Ok, Err}
+use Rattle.std.specs.Prelude.{Contains, nat_eq, nat_lt, ◌/◌, ◌*◌, IfSome, IfNone, OnOk, Result, Ok, Err}
 use Rattle.std.proofs.lemmas.Bool.Decides.{nat_tests}
-use Rattle.std.proofs.lemmas.List.{take_more, take_all, map-append, get_or_default}
+use Rattle.std.proofs.lemmas.List.{take_more, take_all, take-map, drop-map, map-append, length-map, get_or_default}
 use Rattle.enum_base.specs.Folding.{folded, folded_byte}
 use Rattle.dns_name.proofs.NameLemmas.{folded-wire_of}
-use Rattle.zone_build.specs.declared.name_key.TheConstants.{FIRST}
-use Rattle.zone_build.specs.declared.sought.Sought.{Sought}
-use Rattle.std.specs.Option.{option_to_list, option_copied}
+use Rattle.zone_build.specs.declared.index.Sought.{Sought}
+use Rattle.std.specs.Option.{option_to_list}
 use Rattle.std.specs.Map.{lookup}
-use Rattle.std.specs.List.{AllByRecursion}
 use Rattle.std.specs.declared.cmp.Ordering.{Ordering}
 use Rattle.std.specs.declared.cmp.Ordering.TheVariants.{Less, Equal, Greater}
-use Rattle.std.specs.Ordering.{nat_cmp}
 use Rattle.std.specs.Cmp.{IsTotalOrder}
 use Rattle.std.proofs.lemmas.Cmp.{nat_list_cmp_total, on_total, tied_itself}
-use Rattle.std.proofs.lemmas.List.Elements.{Contains-append_left, Contains-append_right, Contains-append_cases, Contains-push, Contains-push_cases}
+use Rattle.std.proofs.lemmas.List.Elements.{Contains-append_left, Contains-append_right, Contains-append_cases}
 use Rattle.naptr_data.proofs.CutLemmas.{Contains-head, Contains-after, Contains-none, head_or_after}
-use Rattle.naptr_data.proofs.BelowLemmas.{below_above, below_same_top, below_same_name, length_below, length_same}
-use Rattle.naptr_data.proofs.DecideLemmas.{below_parts}
+use Rattle.naptr_data.proofs.BelowLemmas.{below_itself, below_above, below_trans, below_same_top, below_same_name, length_below, length_same}
+use Rattle.naptr_data.proofs.DecideLemmas.{below_parts, same_or_not}
 use Rattle.naptr_data.specs.Zones.{Labels}
 use Rattle.dns_name.specs.Name.{AreSame, IsBelow, IsName, folded_labels, wire_of, parent_of}
-use Rattle.dns_wire.specs.Kinds.{soa}
 use Rattle.dns_wire.specs.declared.record.Record.{Record}
-use Rattle.zone_build.specs.Zone.{IsRising, IsCanonical, order_of, owner_order}
+use Rattle.zone_build.specs.Zone.{IsRising, IsCanonical, order_of}
 use Rattle.zone_build.specs.Indexing.{Indexed, IsInserted, AllPlaces, ArePlaces, Meets, NoneMeets, FindsOwners, IsIndex}
-use Rattle.zone_build.specs.Indexing.{IsRunEnd, HasBelow, CoversAbove, IsGrown, candidates, key_of, mixed, state_after}
-use Rattle.zone_build.specs.Indexing.{owner_at, kind_at}
-use Rattle.zone_build.specs.declared.places.Places.{Places}
-use Rattle.zone_build.specs.declared.key.Key.TheVariants.{Owner}
+use Rattle.zone_build.specs.Indexing.{IsRunEnd, HasBelow, CoversAbove, IsGrown, CoversBefore, IsAboveEarlier, candidates, key_of, mixed, joined}
+use Rattle.zone_build.specs.Indexing.{number_after, state_after, owner_at, kind_at}
+use Rattle.zone_build.specs.declared.index.Places.{Places}
+use Rattle.zone_build.specs.declared.entry.Key.TheVariants.{Owner}
 use Rattle.zone_build.proofs.ListLemmas.{AllByRecursion-contains, turn_of, turned_all}
 use Rattle.zone_build.proofs.OrderLemmas.{bytes_cmp, three, less_not_after, then_before, key_not_after}
-use Rattle.zone_build.specs.declared.sought.Sought.TheVariants.{At, Below}
 
 -- the record at a place
 pub record_at : (xs : List Record) (k : ℕ) → k < length xs
@@ -156,112 +151,131 @@ apart_further records first end apart run j k p l f g same = elim (before_or_fro
 ]
 
 -- one more in an index
-pub nothing_yet : (records : List Record) → AllPlaces records (record { entries = []; rest = [] })
-nothing_yet records key one c = absurd (Contains-none one c)
+pub nothing_yet : (records : List Record) (seed : ℕ) → AllPlaces records (record { seed = seed; entries = []; rest = [] })
+nothing_yet records seed key one c = absurd (Contains-none one c)
 
--- the list of those whose key was taken grows
-pub inserted_last : (old new : Indexed) (key : ℕ) (places : Places) → new.entries ≡ old.entries
-    → new.rest ≡ old.rest ++ places ∷ [] → IsInserted old new key places
-inserted_last old new key places e r = record {
-  added = Contains-append_right (option_to_list (lookup (nat_eq key) new.entries)) new.rest places
-      (subst (λ l. Contains l places) (sym r)
-      (Contains-append_right old.rest (places ∷ []) places (Contains-head places [])));
-  kept = λ other one c. elim (Contains-append_cases (option_to_list (lookup (nat_eq other) old.entries)) old.rest one c) [
-    | inl front ↦ Contains-append_left (option_to_list (lookup (nat_eq other) new.entries)) new.rest one
-        (subst (λ es. Contains (option_to_list (lookup (nat_eq other) es)) one) (sym e) front)
-    | inr back ↦ Contains-append_right (option_to_list (lookup (nat_eq other) new.entries)) new.rest one
-        (subst (λ l. Contains l one) (sym r) (Contains-append_left old.rest (places ∷ []) one back))
-  ];
-  only = λ other one c. elim (Contains-append_cases (option_to_list (lookup (nat_eq other) new.entries)) new.rest one c) [
-    | inl front ↦ inl (Contains-append_left (option_to_list (lookup (nat_eq other) old.entries)) old.rest one
-        (subst (λ es. Contains (option_to_list (lookup (nat_eq other) es)) one) e front))
-    | inr back ↦ elim (Contains-append_cases old.rest (places ∷ []) one (subst (λ l. Contains l one) r back)) [
-      | inl here ↦ inl (Contains-append_right (option_to_list (lookup (nat_eq other) old.entries)) old.rest one here)
-      | inr new ↦ elim (head_or_after places [] one new) [ inl is ↦ inr is | inr none ↦ absurd (Contains-none one none) ]
-    ]
-  ];
-}
+only_in : (o : Option Places) (one : Places) → Contains (option_to_list o) one → o ≡ Some one
+only_in None one c = absurd (Contains-none one c)
+only_in (Some x) one c = elim (head_or_after x [] one c) [ inl here ↦ ap (λ y. Some y) (sym here) | inr none ↦ absurd (Contains-none one none) ]
 
-none_of : (o : Option Places) → is_some o ≡ false → o ≡ None
-none_of None e = refl
-none_of (Some x) e = absurd (cc)
+-- what stands for a key is what the map has there, or is in the list
+in_either : (index : Indexed) (key : ℕ) (one : Places) → Contains (candidates index key) one
+    → (lookup (nat_eq key) index.entries ≡ Some one) ⊎ Contains index.rest one
+in_either index key one c = elim (Contains-append_cases (option_to_list (lookup (nat_eq key) index.entries)) index.rest one c) [
+  | inl front ↦ inl (only_in (lookup (nat_eq key) index.entries) one front)
+  | inr back ↦ inr back
+]
+
+pub in_map : (index : Indexed) (key : ℕ) (one : Places) → lookup (nat_eq key) index.entries ≡ Some one → Contains (candidates index key) one
+in_map index key one is = Contains-append_left (option_to_list (lookup (nat_eq key) index.entries)) index.rest one
+    (subst (λ o. Contains (option_to_list o) one) (sym is) (Contains-head one []))
+
+in_list : (index : Indexed) (key : ℕ) (one : Places) → Contains index.rest one → Contains (candidates index key) one
+in_list index key one c = Contains-append_right (option_to_list (lookup (nat_eq key) index.entries)) index.rest one c
+
+keys_equal : (n m : ℕ) → nat_eq n m ≡ true → n ≡ m
+keys_equal n m e = grind (arith, nat_tests)
 
 bool_cases : (b : Bool) → (b ≡ true) ⊎ (b ≡ false)
 bool_cases true = inl refl
 bool_cases false = inr refl
 
--- a key that was not there is added
+pub list_kept : (list : List Places) (o : Option Places) → o ≡ None → list ≡ list ++ option_to_list o
+list_kept list o e = sym (append-nil list) ∙ ap (λ p. list ++ option_to_list p) (sym e)
+
+-- places are put under a key, and those that stood there go into the list
 pub inserted_key : (old new : Indexed) (key : ℕ) (places : Places)
     → ((q : ℕ) → lookup (nat_eq q) new.entries ≡ cond (nat_eq key q) (Some places) (lookup (nat_eq q) old.entries))
-    → ((q : ℕ) → nat_eq key q ≡ true → lookup (nat_eq q) old.entries ≡ None)
-    → lookup (nat_eq key) new.entries ≡ Some places → new.rest ≡ old.rest → IsInserted old new key places
-inserted_key old new key places update none there r = record {
-  added = Contains-append_left (option_to_list (lookup (nat_eq key) new.entries)) new.rest places
-      (subst (λ o. Contains (option_to_list o) places) (sym there) (Contains-head places []));
-  kept = λ other one c. elim (Contains-append_cases (option_to_list (lookup (nat_eq other) old.entries)) old.rest one c) [
+    → lookup (nat_eq key) new.entries ≡ Some places
+    → new.rest ≡ old.rest ++ option_to_list (lookup (nat_eq key) old.entries) → new.seed ≡ old.seed
+    → IsInserted old new key places
+inserted_key old new key places update there r s = record {
+  added = in_map new key places there;
+  kept = λ other one c. elim (in_either old other one c) [
     | inl front ↦ elim (bool_cases (nat_eq key other)) [
-      | inl hit ↦ absurd (Contains-none one (subst (λ o. Contains (option_to_list o) one) (none other hit) front))
-      | inr miss ↦ Contains-append_left (option_to_list (lookup (nat_eq other) new.entries)) new.rest one
-          (subst (λ o. Contains (option_to_list o) one)
-          (sym (update other ∙ ap (λ b. cond b (Some places) (lookup (nat_eq other) old.entries)) miss)) front)
+      | inl hit ↦ in_list new other one
+          (subst (λ l. Contains l one) (sym r)
+          (Contains-append_right old.rest (option_to_list (lookup (nat_eq key) old.entries)) one
+          (subst (λ o. Contains (option_to_list o) one) (sym (moved other one hit front)) (Contains-head one []))))
+      | inr miss ↦ in_map new other one (update other ∙ ap (λ b. cond b (Some places) (lookup (nat_eq other) old.entries)) miss ∙ front)
     ]
-    | inr back ↦ Contains-append_right (option_to_list (lookup (nat_eq other) new.entries)) new.rest one (subst (λ l. Contains l one) (sym r) back)
+    | inr back ↦ in_list new other one
+        (subst (λ l. Contains l one) (sym r)
+        (Contains-append_left old.rest (option_to_list (lookup (nat_eq key) old.entries)) one back))
   ];
-  only = λ other one c. elim (Contains-append_cases (option_to_list (lookup (nat_eq other) new.entries)) new.rest one c) [
+  only = λ other one c. elim (in_either new other one c) [
     | inl front ↦ elim (bool_cases (nat_eq key other)) [
-      | inl hit ↦ elim (head_or_after places [] one
-          (subst (λ o. Contains (option_to_list o) one)
-          (update other
-          ∙ ap (λ b. cond b (Some places)
-          (lookup (nat_eq other) old.entries)) hit) front)) [
-            | inl is ↦ inr is
-            | inr none ↦ absurd
-                (Contains-none one none)
-          ]
-      | inr miss ↦ inl (Contains-append_left (option_to_list (lookup (nat_eq other) old.entries)) old.rest one
-          (subst (λ o. Contains (option_to_list o) one)
-          (update other ∙ ap (λ b. cond b (Some places) (lookup (nat_eq other) old.entries)) miss) front))
+      | inl hit ↦ inr (given one (sym (update other ∙ ap (λ b. cond b (Some places) (lookup (nat_eq other) old.entries)) hit) ∙ front))
+      | inr miss ↦ inl (
+        other,
+        in_map old other one
+            (sym (update other ∙ ap (λ b. cond b (Some places) (lookup (nat_eq other) old.entries)) miss) ∙ front),
+      )
     ]
-    | inr back ↦ inl (Contains-append_right (option_to_list (lookup (nat_eq other) old.entries)) old.rest one (subst (λ l. Contains l one) r back))
+    | inr back ↦ inl (from_list one
+        (Contains-append_cases old.rest (option_to_list (lookup (nat_eq key) old.entries)) one (subst (λ l. Contains l one) r back)))
   ];
+  seed = s;
 }
+  where
+    moved : (other : ℕ) (one : Places) → nat_eq key other ≡ true → lookup (nat_eq other) old.entries ≡ Some one → lookup (nat_eq key) old.entries ≡ Some one
+    moved other one hit front = subst (λ q. lookup (nat_eq q) old.entries ≡ Some one) (sym (keys_equal key other hit)) front
 
-keys_equal : (n m : ℕ) → nat_eq n m ≡ true → n ≡ m
-keys_equal n m e = grind (arith, nat_tests)
+    given : (one : Places) → Some places ≡ Some one → one ≡ places
+    given one e = cc
 
--- a key that is not there
-pub key_absent : (entries : List (ℕ × Places)) (key q : ℕ) → is_some (lookup (nat_eq key) entries) ≡ false
-    → nat_eq key q ≡ true → lookup (nat_eq q) entries ≡ None
-key_absent entries key q not e =
-    subst (λ n. lookup (nat_eq n) entries ≡ None) (keys_equal key q e) (none_of (lookup (nat_eq key) entries) not)
+    from_list : (one : Places) → Contains old.rest one ⊎ Contains (option_to_list (lookup (nat_eq key) old.entries)) one
+        → (was : ℕ) × Contains (candidates old was) one
+    from_list one (inl back) = (key, in_list old key one back)
+    from_list one (inr front) = (key, in_map old key one (only_in (lookup (nat_eq key) old.entries) one front))
 
 -- keys of names
-state_after-push : (s : ℕ) (xs : List ℕ) (b : ℕ) → state_after s (xs ++ b ∷ []) ≡ mixed (state_after s xs) b
-unfolding state_after
-state_after-push s [] b = refl
-state_after-push s (x ∷ xs) b = state_after-push (mixed s x) xs b
+number_after-push : (n : ℕ) (xs : List ℕ) (b : ℕ) → number_after n (xs ++ b ∷ []) ≡ joined (number_after n xs) b
+unfolding number_after
+number_after-push n [] b = refl
+number_after-push n (x ∷ xs) b = number_after-push (joined n x) xs b
 
-pub state_more : (first : ℕ) (bytes : List ℕ) (i state next : ℕ) → i < length bytes
-    → state ≡ state_after first (folded (take i bytes)) → next ≡ mixed state (folded_byte (get_or bytes i 0))
-    → next ≡ state_after first (folded (take (i + 1) bytes))
-state_more first bytes i state next l is e =
-    e ∙ ap (λ s. mixed s (folded_byte (get_or bytes i 0))) is ∙ sym (state_after-push first (folded (take i bytes)) (folded_byte (get_or bytes i 0)))
-    ∙ ap (state_after first) (sym (map-append folded_byte (take i bytes) (get_or bytes i 0 ∷ [])))
-    ∙ ap (λ xs. state_after first (folded xs)) (sym (take_more bytes i 0 l))
+pub number_more : (first : ℕ) (bytes : List ℕ) (i number next : ℕ) → i < length bytes
+    → number ≡ number_after first (folded (take i bytes)) → next ≡ joined number (folded_byte (get_or bytes i 0))
+    → next ≡ number_after first (folded (take (i + 1) bytes))
+number_more first bytes i number next l is e =
+    e ∙ ap (λ s. joined s (folded_byte (get_or bytes i 0))) is ∙ sym (number_after-push first (folded (take i bytes)) (folded_byte (get_or bytes i 0)))
+    ∙ ap (number_after first) (sym (map-append folded_byte (take i bytes) (get_or bytes i 0 ∷ [])))
+    ∙ ap (λ xs. number_after first (folded xs)) (sym (take_more bytes i 0 l))
 
-pub state_first : (first : ℕ) (bytes : List ℕ) → first ≡ state_after first (folded (take 0 bytes))
-unfolding state_after
-state_first first bytes = refl
+pub number_first : (first : ℕ) (bytes : List ℕ) → first ≡ number_after first (folded (take 0 bytes))
+unfolding number_after
+number_first first bytes = refl
 
-pub key_met : (name : Labels) (bytes : List ℕ) (i state : ℕ) → bytes ≡ wire_of name → IsName name → length bytes ≤ i
-    → state ≡ state_after FIRST (folded (take i bytes)) → state / 2 ^ 64 ≡ key_of name
+pub number_all : (first : ℕ) (bytes : List ℕ) (i number : ℕ) → length bytes ≤ i
+    → number ≡ number_after first (folded (take i bytes)) → number ≡ number_after first (folded bytes)
+number_all first bytes i number end is = is ∙ ap (λ xs. number_after first (folded xs)) (take_all i bytes end)
+
+-- seven bytes of the folded name are those of the name, folded
+pub state_more : (seed : ℕ) (bytes : List ℕ) (i state number : ℕ) → state ≡ state_after seed (folded bytes) i
+    → number ≡ number_after 0 (folded (take 7 (drop (7 * i) bytes)))
+    → mixed seed state number ≡ state_after seed (folded bytes) (i + 1)
+state_more seed bytes i state number is n =
+    ap (λ s. mixed seed s number) is
+    ∙ ap (mixed seed (state_after seed (folded bytes) i))
+    (n ∙ ap (number_after 0) (sym (take-map folded_byte 7 (drop (7 * i) bytes)) ∙ ap (take 7) (sym (drop-map folded_byte (7 * i) bytes))))
+    ∙ ap (state_after seed (folded bytes)) (next_is i)
+  where
+    next_is : (n : ℕ) → suc n ≡ n + 1
+    next_is n = omega arith
+
+pub key_met : (seed : ℕ) (name : Labels) (bytes : List ℕ) (i state : ℕ) → bytes ≡ wire_of name → IsName name
+    → i ≡ length bytes / 7 + 1 → state ≡ state_after seed (folded bytes) i → state ≡ key_of seed name
 unfolding key_of
-key_met name bytes i state wire is end all =
-    ap (λ s. s / 2 ^ 64) (all ∙ ap (λ xs. state_after FIRST (folded xs)) (take_all i bytes end ∙ wire) ∙ ap (state_after FIRST) (folded-wire_of name is.each))
+key_met seed name bytes i state wire is end all =
+    let same : folded bytes ≡ wire_of (folded_labels name) = ap folded wire ∙ folded-wire_of name is.each in
+    all
+    ∙ ap (state_after seed (folded bytes)) (end ∙ ap (λ n. n / 7 + 1) (sym (length-map bytes folded_byte)))
+    ∙ ap (λ xs. state_after seed xs (length xs / 7 + 1)) same
 
-pub same_keys : (one other : Labels) → AreSame one other → key_of one ≡ key_of other
+pub same_keys : (seed : ℕ) (one other : Labels) → AreSame one other → key_of seed one ≡ key_of seed other
 unfolding key_of
-same_keys one other same = ap (λ n. state_after FIRST (wire_of n) / 2 ^ 64) same
+same_keys seed one other same = ap (λ n. state_after seed (wire_of n) (length (wire_of n) / 7 + 1)) same
 
 -- finding
 pub first_within : (records : List Record) (index : Indexed) (list : List Places) → AllPlaces records index
@@ -271,10 +285,6 @@ first_within records index list all is one c =
     let s = p.some in
     let w = p.within in
     omega arith
-
-pub in_map : (index : Indexed) (key : ℕ) (one : Places) → lookup (nat_eq key) index.entries ≡ Some one → Contains (candidates index key) one
-in_map index key one is = Contains-append_left (option_to_list (lookup (nat_eq key) index.entries)) index.rest one
-    (subst (λ o. Contains (option_to_list o) one) (sym is) (Contains-head one []))
 
 pub in_rest : (index : Indexed) (key : ℕ) (list : List Places) (one : Places) → list ≡ index.rest → Contains list one → Contains (candidates index key) one
 in_rest index key list one is c = Contains-append_right (option_to_list (lookup (nat_eq key) index.entries)) index.rest one (subst (λ l. Contains l one) is c)
@@ -289,10 +299,6 @@ none_in_both sought records name index key list is front back one c =
       | inl here ↦ front one (only_in (lookup (nat_eq key) index.entries) one here)
       | inr there ↦ back one (subst (λ l. Contains l one) (sym is) there)
     ]
-  where
-    only_in : (o : Option Places) (one : Places) → Contains (option_to_list o) one → o ≡ Some one
-    only_in None one c = absurd (Contains-none one c)
-    only_in (Some x) one c = elim (head_or_after x [] one c) [ inl here ↦ ap (λ y. Some y) (sym here) | inr none ↦ absurd (Contains-none one none) ]
 
 -- places in their turn
 pub none_more : (sought : Sought) (records : List Record) (name : Labels) (list : List Places) (i : ℕ) (d : Places)
@@ -326,25 +332,31 @@ both_map P Q R f (Err e) p q = tt
 
 -- one more name
 pub grown_same : (records : List Record) (index : Indexed) → AllPlaces records index → IsGrown records index index
-grown_same records index all = record { places = all; kept = λ key one c. c }
+grown_same records index all = record { places = all; kept = λ key one c. c; seed = refl }
 
 pub grown_twice : (records : List Record) (one two three : Indexed) → IsGrown records one two → IsGrown records two three → IsGrown records one three
-grown_twice records one two three g h = record { places = h.places; kept = λ key p c. h.kept key p (g.kept key p c) }
+grown_twice records one two three g h = record { places = h.places; kept = λ key p c. h.kept key p (g.kept key p c); seed = h.seed ∙ g.seed }
 
 pub inserted_grown : (records : List Record) (old new : Indexed) (key : ℕ) (places : Places) → AllPlaces records old
     → ArePlaces records places → IsInserted old new key places → IsGrown records old new
 inserted_grown records old new key places all here i = record {
-  places = λ other one c. elim (i.only other one c) [ inl was ↦ all other one was | inr is ↦ subst (ArePlaces records) (sym is) here ];
+  places = λ other one c. elim (i.only other one c) [ inl was ↦ all was.0 one was.1 | inr is ↦ subst (ArePlaces records) (sym is) here ];
   kept = i.kept;
+  seed = i.seed;
 }
 
 pub inserted_has : (records : List Record) (old new : Indexed) (key : ℕ) (name : Labels) (places : Places)
-    → key ≡ key_of name → IsBelow (owner_at records places.first) name → IsInserted old new key places
+    → key ≡ key_of old.seed name → IsBelow (owner_at records places.first) name → IsInserted old new key places
     → HasBelow records new name
-inserted_has records old new key name places is below i = (places, subst (λ k. Contains (candidates new k) places) is i.added, below)
+inserted_has records old new key name places is below i =
+    (places, subst (λ k. Contains (candidates new k) places) (is ∙ ap (λ s. key_of s name) (sym i.seed)) i.added, below)
 
 pub has_grown : (records : List Record) (old new : Indexed) (name : Labels) → IsGrown records old new → HasBelow records old name → HasBelow records new name
-has_grown records old new name g (one, c, b) = (one, g.kept (key_of name) one c, b)
+has_grown records old new name g (one, c, b) = (
+  one,
+  subst (λ s. Contains (candidates new (key_of s name)) one) (sym g.seed) (g.kept (key_of old.seed name) one c),
+  b,
+)
 
 pub below_both : (a b : Labels) → IsBelow a b → IsBelow b a → AreSame a b
 below_both a b ([], back, parts, same) d = ap folded_labels parts ∙ same
@@ -354,6 +366,36 @@ below_both a b (l ∷ front, back, parts, same) d =
     let less = length_below b a d in
     absurd (omega (arith, whole, part, less))
 
+-- an owner that an index finds is at or below itself
+places_or_none : (P : Places → Type 0) → ((one : Places) → P one ⊎ (P one → ⊥)) → (list : List Places)
+    → ((one : Places) × Contains list one × P one) ⊎ ((one : Places) → Contains list one → ¬ P one)
+places_or_none P each [] = inr (λ one c p. Contains-none one c)
+places_or_none P each (x ∷ xs) = next (each x) (places_or_none P each xs)
+  where
+    next : P x ⊎ (P x → ⊥) → ((one : Places) × Contains xs one × P one) ⊎ ((one : Places) → Contains xs one → ¬ P one)
+        → ((one : Places) × Contains (x ∷ xs) one × P one) ⊎ ((one : Places) → Contains (x ∷ xs) one → ¬ P one)
+    next (inl here) h = inl (x, Contains-head x xs, here)
+    next (inr not) (inl (one, c, p)) = inl (one, Contains-after x xs one c, p)
+    next (inr not) (inr none) = inr (λ one c p. elim (head_or_after x xs one c) [
+      | inl same ↦ not (subst P same p)
+      | inr after ↦ none one after p
+    ])
+
+pub owner_there : (records : List Record) (index : Indexed) (k : ℕ) → FindsOwners records index → 0 < k → k < length records
+    → HasBelow records index (owner_at records k)
+owner_there records index k found p l =
+    elim (places_or_none (λ one. AreSame (owner_at records one.first) (owner_at records k))
+    (λ one. same_or_not (owner_at records one.first) (owner_at records k))
+    (candidates index (key_of index.seed (owner_at records k)))) [
+      | inl (one, c, same) ↦ (
+        one,
+        c,
+        below_same_top (owner_at records one.first) (owner_at records one.first) (owner_at records k) same
+            (below_itself (owner_at records one.first)),
+      )
+      | inr none ↦ absurd (found.owners k p l none)
+    ]
+
 -- the names at or above one
 pub covers_apex : (records : List Record) (apex name : Labels) (index : Indexed) → AreSame name apex → CoversAbove records apex name index
 covers_apex records apex name index same above b inside not =
@@ -361,7 +403,7 @@ covers_apex records apex name index same above b inside not =
 
 pub has_same : (records : List Record) (index : Indexed) (name other : Labels) → AreSame name other → HasBelow records index name → HasBelow records index other
 has_same records index name other same (one, c, b) =
-    (one, subst (λ k. Contains (candidates index k) one) (same_keys name other same) c, below_same_top (owner_at records one.first) name other same b)
+    (one, subst (λ k. Contains (candidates index k) one) (same_keys index.seed name other same) c, below_same_top (owner_at records one.first) name other same b)
 
 pub covers_more : (records : List Record) (apex name above : Labels) (old new : Indexed) → Some above ≡ parent_of name
     → HasBelow records old name → IsGrown records old new → CoversAbove records apex above new
@@ -382,6 +424,24 @@ covers_root records apex [] index is has other b inside not = has_same records i
     root_same other ([], back, parts, same) = ap folded_labels parts ∙ same
     root_same other (l ∷ front, back, parts, same) = absurd (cc)
 
+-- an owner that was passed covers what is above it
+pub covers_passed : (records : List Record) (apex name : Labels) (at : ℕ) (old new : Indexed) → CoversBefore records apex at old
+    → IsGrown records old new → IsAboveEarlier records at name → CoversAbove records apex name new
+covers_passed records apex name at old new covers g (k, p, l, below) other b inside not =
+    has_grown records old new other g (covers k other p l (below_trans (owner_at records k) name other below b) inside not)
+
+pub covers_later : (records : List Record) (apex : Labels) (at : ℕ) (old new : Indexed) → IsGrown records old new
+    → CoversBefore records apex at old → CoversBefore records apex at new
+covers_later records apex at old new g covers k name p l b inside not = has_grown records old new name g (covers k name p l b inside not)
+
+pub test_less : (n m : ℕ) → nat_lt n m ≡ true → n < m
+test_less n m t = grind (arith, nat_tests)
+
+pub found_earlier : (records : List Record) (index : Indexed) (key at : ℕ) (name : Labels) (one : Places)
+    → AllPlaces records index → Contains (candidates index key) one → IsBelow (owner_at records one.first) name
+    → one.first < at → IsAboveEarlier records at name
+found_earlier records index key at name one all c b l = (one.first, (all key one c).after_soa, l, b)
+
 -- the name above one
 pub shorter_above : (name above : Labels) → Some above ≡ parent_of name → length above < length name
 shorter_above [] above is = absurd (cc)
@@ -399,7 +459,7 @@ pub record OwnersUntil (records : List Record) (at : ℕ) (index : Indexed) : Ty
   pub apart : OwnersApart records at
   pub places : AllPlaces records index
   pub owners : (k : ℕ) → 0 < k → k < at
-      → (one : Places) × Contains (candidates index (key_of (owner_at records k))) one
+      → (one : Places) × Contains (candidates index (key_of index.seed (owner_at records k))) one
       × AreSame (owner_at records one.first) (owner_at records k)
 
 pub owners_none : (records : List Record) (index : Indexed) → AllPlaces records index → OwnersUntil records 1 index
@@ -411,19 +471,25 @@ owners_none records index all = record {
 }
 
 pub owners_more : (records : List Record) (first end key : ℕ) (old new : Indexed) → OwnersUntil records first old
-    → IsRunEnd records first end → key ≡ key_of (owner_at records first)
+    → IsRunEnd records first end → key ≡ key_of old.seed (owner_at records first)
     → IsInserted old new key (record { first = first; end = end }) → OwnersUntil records end new
 owners_more records first end key old new u run is i = record {
   some = let s = run.some in omega arith;
   apart = apart_further records first end u.apart run;
   places = grown.places;
   owners = λ k p l. elim (before_or_from k first) [
-    | inl before ↦ let f = u.owners k p before in (f.0, grown.kept (key_of (owner_at records k)) f.0 f.1, f.2)
+    | inl before ↦ let f = u.owners k p before in (
+      f.0,
+      subst (λ s. Contains (candidates new (key_of s (owner_at records k))) f.0) (sym i.seed)
+          (grown.kept (key_of old.seed (owner_at records k)) f.0 f.1),
+      f.2,
+    )
     | inr from ↦ let same = run.here k from l
         in (
           record { first = first; end = end },
           subst (λ n. Contains (candidates new n) (record { first = first; end = end }))
-              (is ∙ same_keys (owner_at records first) (owner_at records k) same) i.added,
+              (is ∙ same_keys old.seed (owner_at records first) (owner_at records k) same
+              ∙ ap (λ s. key_of s (owner_at records k)) (sym i.seed)) i.added,
           same,
         )
   ];
@@ -443,8 +509,7 @@ pub record NamesUntil (records : List Record) (apex : Labels) (at : ℕ) (index 
   pub some : 0 < at
   pub apart : OwnersApart records at
   pub owners : FindsOwners records index
-  pub names : (k : ℕ) (name : Labels) → 0 < k → k < at → IsBelow (owner_at records k) name → IsBelow name apex
-      → ¬ AreSame name apex → HasBelow records index name
+  pub names : CoversBefore records apex at index
 
 pub names_none : (records : List Record) (apex : Labels) (index : Indexed) → FindsOwners records index → NamesUntil records apex 1 index
 names_none records apex index owners = record {
@@ -462,7 +527,10 @@ names_more records apex first end old new u run grown covers = record {
   apart = apart_further records first end u.apart run;
   owners = record {
     places = grown.places;
-    owners = λ k p l none. u.owners.owners k p l (λ one c. none one (grown.kept (key_of (owner_at records k)) one c));
+    owners = λ k p l none. u.owners.owners k p l
+        (λ one c. none one
+        (subst (λ s. Contains (candidates new (key_of s (owner_at records k))) one) (sym grown.seed)
+        (grown.kept (key_of old.seed (owner_at records k)) one c)));
   };
   names = λ k name p l b inside not. elim (before_or_from k first) [
     | inl before ↦ has_grown records old new name grown (u.names k name p before b inside not)

@@ -29,8 +29,8 @@ own_set a others k none = record {
 }
 
 -- the set of the SOA is the same with the others and without
-start_large : (a : Record) (one other : List Record) → a.kind ≡ soa → Lacks one → Lacks other → IsLarge (a ∷ one) a → IsLarge (a ∷ other) a
-start_large a one other k none none' (set, s, more) =
+soa_large : (a : Record) (one other : List Record) → a.kind ≡ soa → Lacks one → Lacks other → IsLarge (a ∷ one) a → IsLarge (a ∷ other) a
+soa_large a one other k none none' (set, s, more) =
     let is = one_set (a ∷ one) a.owner a.kind set (a ∷ []) s (own_set a one k none) in
     (a ∷ [], own_set a other k none', subst (λ l. 60_000 < weight l) is more)
 
@@ -76,12 +76,12 @@ large_tail a r others k none c (set, s, more) =
     ]
 
 -- the SOA's set is too large
-pub first_at_start : (a : Record) (others : List Record) (place : ℕ) → IsCanonical (a ∷ others)
+pub first_at_soa : (a : Record) (others : List Record) (place : ℕ) → IsCanonical (a ∷ others)
     → IsFirstLarge (a ∷ []) (Some place) → IsFirstLarge (a ∷ others) (Some 0)
-first_at_start a others place c (one, f) =
+first_at_soa a others place c (one, f) =
     let among : Contains (a ∷ []) one = subst (λ l. Contains l one) (sym f.parts) (Contains-middle f.before one f.after) in
     let large : IsLarge (a ∷ []) a = subst (IsLarge (a ∷ [])) (only_one a one among) f.here in
-    (a, record { before = []; after = others; parts = refl; at = refl; here = start_large a [] others c.0 tt c.1 large; first = tt })
+    (a, record { before = []; after = others; parts = refl; at = refl; here = soa_large a [] others c.0 tt c.1 large; first = tt })
 
 -- another set is
 pub first_after : (a : Record) (others : List Record) (place : ℕ) → IsCanonical (a ∷ others)
@@ -96,7 +96,7 @@ first_after a others place c none (one, f) =
         at = ap suc f.at ∙ omega arith;
         here = large_after a one others c.0 c.1 among f.here;
         first = (
-          λ l. none a (Contains-head a []) (start_large a others [] c.0 c.1 tt l),
+          λ l. none a (Contains-head a []) (soa_large a others [] c.0 c.1 tt l),
           AllByRecursion-made (λ r. ¬ IsLarge (a ∷ others) r) f.before (λ r k l.
               AllByRecursion-contains (λ r. ¬ IsLarge others r) f.before r f.first k
               (large_tail a r others c.0 c.1
@@ -109,6 +109,6 @@ first_after a others place c none (one, f) =
 pub none_at_all : (a : Record) (others : List Record) → IsCanonical (a ∷ others) → IsFirstLarge (a ∷ []) None
     → IsFirstLarge others None → IsFirstLarge (a ∷ others) None
 none_at_all a others c none none' one k l = elim (head_or_after a others one k) [
-  | inl here ↦ none a (Contains-head a []) (start_large a others [] c.0 c.1 tt (subst (IsLarge (a ∷ others)) here l))
+  | inl here ↦ none a (Contains-head a []) (soa_large a others [] c.0 c.1 tt (subst (IsLarge (a ∷ others)) here l))
   | inr after ↦ none' one after (large_tail a one others c.0 c.1 after l)
 ]

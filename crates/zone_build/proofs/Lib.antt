@@ -19,6 +19,7 @@ pub mod RdataLemmas
 pub mod RunLemmas
 pub mod SetRunLemmas
 pub mod SizeLemmas
+pub mod SoaLemmas
+pub mod SomeSetLemmas
 pub mod SomeZoneLemmas
 pub mod SortLemmas
-pub mod StartLemmas

@@ -17,22 +17,22 @@ use Rattle.dns_wire.specs.Rdata.{rdata_of}
 use Rattle.dns_wire.specs.declared.record.Record.{Record}
 use Rattle.zone_build.specs.Zone.{Zone, IsPlain, IsIn, AreOneSet, AreRepeats, IsRising, IsCanonical, IsSet, IsWildcard, IsValid, owner_order, order_of, weight}
 use Rattle.zone_build.specs.Built.{IsFirst, IsFirstRepeat, IsKept, IsBuilt}
-use Rattle.zone_build.specs.Faults.{HasSoa, HasOneStart, AreInside, AreUnmixed, IsLarge, IsWildcardCut, IsZoneFault}
+use Rattle.zone_build.specs.Faults.{HasSoa, HasOneSoa, AreInside, AreUnmixed, IsLarge, IsWildcardCut, IsZoneFault}
 use Rattle.zone_build.specs.Building.{key_order}
 use Rattle.zone_build.specs.declared.fault.ZoneFault.{ZoneFault}
 use Rattle.zone_build.specs.declared.fault.ZoneFault.TheVariants as fault
-use Rattle.zone_build.specs.declared.key.Key.TheVariants.{Set, Whole}
+use Rattle.zone_build.specs.declared.entry.Key.TheVariants.{Set, Whole}
 use Rattle.zone_build.proofs.ListLemmas.{AllByRecursion-contains, AllByRecursion-made, only_one}
 use Rattle.zone_build.proofs.OrderLemmas.{bytes_cmp, bytes_cmp-equal, nat_cmp-equal, then_equal, equal_then}
 use Rattle.zone_build.proofs.OrderLemmas.{order_of-total, key_order-total, key_not_after, alike_equal, alike_sym}
 use Rattle.zone_build.proofs.OrderLemmas.{alike_trans, less_not_after, three}
-use Rattle.zone_build.proofs.StartLemmas.{first_in, first_same}
+use Rattle.zone_build.proofs.SoaLemmas.{first_in, first_same}
 use Rattle.zone_build.proofs.SizeLemmas.{one_set}
 use Rattle.zone_build.proofs.LargeLemmas.{tail_set}
 use Rattle.zone_build.proofs.BuildLemmas.{valid_of}
 use Rattle.zone_build.proofs.DecideLemmas.{repeats_or_not}
-use Rattle.zone_build.proofs.SomeZoneLemmas.{HasNone, HasSome, first_or_none, some_or_none, is_soa, start_or_none}
-use Rattle.zone_build.proofs.SomeZoneLemmas.{one_start_or_not, outside_or_inside, clash_or_unmixed}
+use Rattle.zone_build.proofs.SomeZoneLemmas.{HasNone, HasSome, first_or_none, some_or_none, is_soa, soa_or_none}
+use Rattle.zone_build.proofs.SomeZoneLemmas.{one_soa_or_not, outside_or_inside, clash_or_unmixed}
 
 -- wire forms tell names apart
 wire_more : (label : List ℕ) (labels : Labels) → wire_of (label ∷ labels) ≡ length label ∷ (label ++ wire_of labels)
@@ -299,7 +299,7 @@ made_new given done kept x c not m none =
 made_more : (given done kept : List Record) (x : Record) → Contains given x → IsMade given done kept
     → (kept' : List Record) × IsMade given (done ++ x ∷ []) kept'
 made_more given done kept x c m = elim (is_soa x) [
-  | inl start ↦ (kept, made_same given done kept x m (λ not. absurd (not start)))
+  | inl the_soa ↦ (kept, made_same given done kept x m (λ not. absurd (not the_soa)))
   | inr not ↦ elim (some_or_none (AreRepeats x) (repeats_or_not x) kept) [
     | inl there ↦ (kept, made_same given done kept x m (λ n. there))
     | inr none ↦ made_new given done kept x c not m none
@@ -322,28 +322,28 @@ others_made given = made_all given [] given [] (λ e c. c) (record {
 })
 
 -- the zone that records make
-pub built_some : (given : List Record) (place : ℕ) (start : Record) → IsFirst (λ r. r.kind ≡ soa) given place start
-    → HasOneStart given → (zone : Zone) × IsBuilt given zone
-built_some given place start f all =
-    let c = first_in (λ (r : Record). r.kind ≡ soa) given place start f in
-    let k = kept_some given start c in
+pub built_some : (given : List Record) (place : ℕ) (the_soa : Record) → IsFirst (λ r. r.kind ≡ soa) given place the_soa
+    → HasOneSoa given → (zone : Zone) × IsBuilt given zone
+built_some given place the_soa f all =
+    let c = first_in (λ (r : Record). r.kind ≡ soa) given place the_soa f in
+    let k = kept_some given the_soa c in
     let m = others_made given in
-    let same : AreRepeats start k.0 = kept_is_repeat given start k.0 k.1 in
-    let back : AreRepeats k.0 start = alike_sym Whole start k.0 same in
-    let first : IsFirst (AreRepeats k.0) given place start =
-    first_same (λ (r : Record). r.kind ≡ soa) (AreRepeats k.0) given place start
-    (λ y d l. alike_trans Whole k.0 start y back (all start y c d f.here l))
+    let same : AreRepeats the_soa k.0 = kept_is_repeat given the_soa k.0 k.1 in
+    let back : AreRepeats k.0 the_soa = alike_sym Whole the_soa k.0 same in
+    let first : IsFirst (AreRepeats k.0) given place the_soa =
+    first_same (λ (r : Record). r.kind ≡ soa) (AreRepeats k.0) given place the_soa
+    (λ y d l. alike_trans Whole k.0 the_soa y back (all the_soa y c d f.here l))
     (λ y d r. sym r.0.1 ∙ k.1.kind ∙ f.here) f in (
-      record { apex = folded_labels start.owner; records = k.0 ∷ m.0 },
+      record { apex = folded_labels the_soa.owner; records = k.0 ∷ m.0 },
       record {
-        apex = λ one d l. (all start one c d f.here l).0.0;
+        apex = λ one d l. (all the_soa one c d f.here l).0.0;
         kept = λ e d. elim (head_or_after k.0 m.0 e d) [
           | inl here ↦
-              subst (λ (r : Record). (one : Record) × IsFirstRepeat given r one × IsKept given one r) (sym here) (start, (place, first), k.1)
+              subst (λ (r : Record). (one : Record) × IsFirstRepeat given r one × IsKept given one r) (sym here) (the_soa, (place, first), k.1)
           | inr after ↦ let g = m.1.from e after in (g.0, g.1, g.2)
         ];
         all = λ one d. elim (is_soa one) [
-          | inl l ↦ (k.0, Contains-head k.0 m.0, alike_trans Whole one start k.0 (all one start d c l f.here) same)
+          | inl l ↦ (k.0, Contains-head k.0 m.0, alike_trans Whole one the_soa k.0 (all one the_soa d c l f.here) same)
           | inr not ↦ let g = m.1.all one d not in (g.0, Contains-after k.0 m.0 g.0 g.1, g.2)
         ];
         order = (
@@ -425,9 +425,9 @@ rising_set (x ∷ xs) owner kind r =
 
 pub some_set : (records : List Record) (owner : Labels) (kind : ℕ) → IsCanonical records → (set : List Record) × IsSet records owner kind set
 some_set [] owner kind c = absurd c
-some_set (start ∷ rest) owner kind c = elim (in_or_not owner kind start) [
+some_set (the_soa ∷ rest) owner kind c = elim (in_or_not owner kind the_soa) [
   | inl here ↦ (
-    start ∷ [],
+    the_soa ∷ [],
     record {
       before = [];
       after = rest;
@@ -438,7 +438,7 @@ some_set (start ∷ rest) owner kind c = elim (in_or_not owner kind start) [
           (λ r d i. AllByRecursion-contains (λ (one : Record). one.kind ≢ soa) rest r c.1 d (i.1 ∙ sym here.1 ∙ c.0));
     },
   )
-  | inr not ↦ let i = rising_set rest owner kind c.2 in (i.0, tail_set start rest owner kind i.0 not i.1)
+  | inr not ↦ let i = rising_set rest owner kind c.2 in (i.0, tail_set the_soa rest owner kind i.0 not i.1)
 ]
 
 more_or_not : (n : ℕ) → Either (60_000 < n)
@@ -482,27 +482,27 @@ sized given zone plain free built =
       ]
     ]
 
-placed : (given : List Record) (place : ℕ) (start : Record) → ((one : Record) → Contains given one → IsPlain one)
-    → IsFirst (λ r. r.kind ≡ soa) given place start → HasSoa given → HasOneStart given → MakesOne given
-placed given place start plain f has one_soa =
-    let c = first_in (λ (r : Record). r.kind ≡ soa) given place start f in
-    elim (outside_or_inside given start c f.here one_soa) [
+placed : (given : List Record) (place : ℕ) (the_soa : Record) → ((one : Record) → Contains given one → IsPlain one)
+    → IsFirst (λ r. r.kind ≡ soa) given place the_soa → HasSoa given → HasOneSoa given → MakesOne given
+placed given place the_soa plain f has one_soa =
+    let c = first_in (λ (r : Record). r.kind ≡ soa) given place the_soa f in
+    elim (outside_or_inside given the_soa c f.here one_soa) [
       | inl (out, one, g) ↦ inr (fault.OutOfZone out, (λ e. cc), (has, one_soa, (one, g)))
       | inr inside ↦
           let in_zone : AreInside given = record { some = has; one = one_soa; inside = inside } in
           elim (clash_or_unmixed given in_zone) [
             | inl (out, one, g) ↦ inr (fault.AliasClash (folded_labels one.owner), (λ e. cc), (in_zone, (out, one, refl, g)))
-            | inr free ↦ let z = built_some given place start f one_soa in sized given z.0 plain free z.1
+            | inr free ↦ let z = built_some given place the_soa f one_soa in sized given z.0 plain free z.1
           ]
     ]
 
 pub zone_or_fault : (given : List Record) → ((one : Record) → Contains given one → IsPlain one) → MakesOne given
-zone_or_fault given plain = elim (start_or_none given) [
-  | inl (place, start, f) ↦
-      let c = first_in (λ (r : Record). r.kind ≡ soa) given place start f in
-      let has : HasSoa given = (start, c, f.here) in
-      elim (one_start_or_not given start c f.here) [
-        | inl one_soa ↦ placed given place start plain f has one_soa
+zone_or_fault given plain = elim (soa_or_none given) [
+  | inl (place, the_soa, f) ↦
+      let c = first_in (λ (r : Record). r.kind ≡ soa) given place the_soa f in
+      let has : HasSoa given = (the_soa, c, f.here) in
+      elim (one_soa_or_not given the_soa c f.here) [
+        | inl one_soa ↦ placed given place the_soa plain f has one_soa
         | inr not ↦ inr (fault.TwoSoa, (λ e. cc), (has, not))
       ]
   | inr none ↦ inr (fault.NoSoa, (λ e. cc), none)

@@ -15,11 +15,11 @@ use Rattle.dns_wire.specs.Rdata.{rdata_of}
 use Rattle.dns_wire.specs.declared.record.Record.{Record}
 use Rattle.zone_build.specs.Zone.{AreOneSet, AreRepeats, IsRising, order_of}
 use Rattle.zone_build.specs.Building.{Given, Chosen, keep_of, copy_of, settled, AreAmong, key_order, AreAlike, IsRun}
-use Rattle.zone_build.specs.Building.{IsLeast, IsCopy, IsEarliest, IsFirstCopy, IsStable, AreMerged, IsAtStart}
+use Rattle.zone_build.specs.Building.{IsLeast, IsCopy, IsEarliest, IsFirstCopy, IsStable, AreMerged, IsSoaAs}
 use Rattle.zone_build.specs.Building.{IsSetTtl, IsKeptOf, IsMergedSet}
 use Rattle.zone_build.specs.declared.keep.Keep.{Keep}
-use Rattle.zone_build.specs.declared.key.Key.{Key}
-use Rattle.zone_build.specs.declared.key.Key.TheVariants.{Set, Whole}
+use Rattle.zone_build.specs.declared.entry.Key.{Key}
+use Rattle.zone_build.specs.declared.entry.Key.TheVariants.{Set, Whole}
 use Rattle.zone_build.proofs.ListLemmas.{take_in, drop_in, part_of, only_one, AllByRecursion-made}
 use Rattle.zone_build.proofs.RunLemmas.{stable_take, stable_drop, stable_head}
 use Rattle.zone_build.proofs.OrderLemmas.{order_of-total, key_later, alike_equal, alike_sym, alike_trans, equal_less, less_equal, later_apart}
@@ -220,11 +220,11 @@ set_earliest all part at n P R added e m run cut c first d k same =
           absurd (later_apart Set d.given e.given (gone e (take_in n (drop at all) e front)) (alike_sym Set e.given d.given same.0))
     ]
 
--- all of a set is at the start, or none of it
-same_start : (start : Bool) (part : List Given) (head e : Given)
+-- all of a set are SOA records, or none is
+same_soa : (as_soa : Bool) (part : List Given) (head e : Given)
     → ((one other : Given) → Contains part one → Contains part other → AreOneSet one.given other.given)
-    → Contains part head → Contains part e → IsAtStart start head → IsAtStart start e
-same_start start part head e here c d is = ap (λ k. k == soa) (sym (here head e c d).1) ∙ is
+    → Contains part head → Contains part e → IsSoaAs as_soa head → IsSoaAs as_soa e
+same_soa as_soa part head e here c d is = ap (λ k. k == soa) (sym (here head e c d).1) ∙ is
 
 -- the entries of a run are alike
 pub run_here : (key : Key) (all part : List Given) (at n : ℕ) → IsRun key (drop at all) n → part ≡ take n (drop at all)
@@ -233,24 +233,24 @@ run_here key all part at n run cut one other c d =
     run.here one other (subst (λ l. Contains l one) cut c) (subst (λ l. Contains l other) cut d)
 
 -- one set is added
-pub set_added : (start : Bool) (all part : List Given) (at n : ℕ) (head : Given) (first old new : List Keep)
-    → IsMergingFrom Set (IsAtStart start) (IsKeptOf all) all at first old → IsRun Set (drop at all) n
-    → part ≡ take n (drop at all) → Contains part head → IsAtStart start head → IsMergedSet part old new
-    → IsMergingFrom Set (IsAtStart start) (IsKeptOf all) all (at + n) first new
-set_added start all part at n head first old new m run cut among is (added, ttl, added_is, least, chosen, made) =
-    subst (IsMergingFrom Set (IsAtStart start) (IsKeptOf all) all (at + n) first) (sym added_is)
-    (from_more Set (IsAtStart start) (IsKeptOf all)
+pub set_added : (as_soa : Bool) (all part : List Given) (at n : ℕ) (head : Given) (first old new : List Keep)
+    → IsMergingFrom Set (IsSoaAs as_soa) (IsKeptOf all) all at first old → IsRun Set (drop at all) n
+    → part ≡ take n (drop at all) → Contains part head → IsSoaAs as_soa head → IsMergedSet part old new
+    → IsMergingFrom Set (IsSoaAs as_soa) (IsKeptOf all) all (at + n) first new
+set_added as_soa all part at n head first old new m run cut among is (added, ttl, added_is, least, chosen, made) =
+    subst (IsMergingFrom Set (IsSoaAs as_soa) (IsKeptOf all) all (at + n) first) (sym added_is)
+    (from_more Set (IsSoaAs as_soa) (IsKeptOf all)
     (kept_repeats all) all part at n first old added m run cut chosen (record {
       from = λ one c.
           let f = made.from one c in (
             f.0,
             f.1,
-            same_start start part head f.0 (run_here Set all part at n run cut) among f.1 is,
+            same_soa as_soa part head f.0 (run_here Set all part at n run cut) among f.1 is,
             (
               ttl,
-              set_ttl all part at n (IsAtStart start) (map copy_of m.0) ttl f.0 m.3 run cut least f.1,
+              set_ttl all part at n (IsSoaAs as_soa) (map copy_of m.0) ttl f.0 m.3 run cut least f.1,
               f.3.1,
-              set_earliest all part at n (IsAtStart start) (IsKeptOf all) (map copy_of m.0) f.0 m.3 run cut f.1 f.3.0,
+              set_earliest all part at n (IsSoaAs as_soa) (IsKeptOf all) (map copy_of m.0) f.0 m.3 run cut f.1 f.3.0,
             ),
           );
       each = λ e c p. made.each e c tt;
@@ -258,15 +258,15 @@ set_added start all part at n head first old new m run cut among is (added, ttl,
     }))
 
 -- one set is passed over
-pub set_passed : (start : Bool) (all part : List Given) (at n : ℕ) (head : Given) (first old : List Keep)
-    → IsMergingFrom Set (IsAtStart start) (IsKeptOf all) all at first old → IsRun Set (drop at all) n
-    → part ≡ take n (drop at all) → Contains part head → ¬ IsAtStart start head
-    → IsMergingFrom Set (IsAtStart start) (IsKeptOf all) all (at + n) first old
-set_passed start all part at n head first old m run cut among not =
-    subst (IsMergingFrom Set (IsAtStart start) (IsKeptOf all) all (at + n) first) (append-nil old)
-    (from_more Set (IsAtStart start) (IsKeptOf all) (kept_repeats all) all part at n first old [] m run cut
+pub set_passed : (as_soa : Bool) (all part : List Given) (at n : ℕ) (head : Given) (first old : List Keep)
+    → IsMergingFrom Set (IsSoaAs as_soa) (IsKeptOf all) all at first old → IsRun Set (drop at all) n
+    → part ≡ take n (drop at all) → Contains part head → ¬ IsSoaAs as_soa head
+    → IsMergingFrom Set (IsSoaAs as_soa) (IsKeptOf all) all (at + n) first old
+set_passed as_soa all part at n head first old m run cut among not =
+    subst (IsMergingFrom Set (IsSoaAs as_soa) (IsKeptOf all) all (at + n) first) (append-nil old)
+    (from_more Set (IsSoaAs as_soa) (IsKeptOf all) (kept_repeats all) all part at n first old [] m run cut
     (λ one c. absurd (Contains-none one c)) (record {
       from = λ one c. absurd (Contains-none one c);
-      each = λ e c p. absurd (not (same_start start part e head (run_here Set all part at n run cut) c among p));
+      each = λ e c p. absurd (not (same_soa as_soa part e head (run_here Set all part at n run cut) c among p));
       rising = tt;
     }))

@@ -9,13 +9,13 @@ use Rattle.dns_wire.specs.Kinds.{cname}
 use Rattle.dns_wire.specs.declared.record.Record.{Record}
 use Rattle.zone_build.specs.Zone.{Zone, AreRepeats, IsValid}
 use Rattle.zone_build.specs.Built.{IsFirst, IsBuilt}
-use Rattle.zone_build.specs.Faults.{HasSoa, HasOneStart, IsInside, Clashes, IsWildcardCut, IsLarge, IsZoneFault}
+use Rattle.zone_build.specs.Faults.{HasSoa, HasOneSoa, IsInside, Clashes, IsWildcardCut, IsLarge, IsZoneFault}
 use Rattle.zone_build.specs.declared.fault.ZoneFault.{ZoneFault}
 use Rattle.zone_build.specs.declared.fault.ZoneFault.TheVariants as fault
-use Rattle.zone_build.specs.declared.key.Key.TheVariants.{Whole}
+use Rattle.zone_build.specs.declared.entry.Key.TheVariants.{Whole}
 use Rattle.zone_build.proofs.OrderLemmas.{alike_sym, alike_trans}
-use Rattle.zone_build.proofs.StartLemmas.{first_in}
-use Rattle.zone_build.proofs.OneZoneLemmas.{one_first, begins_start, one_soa, one_built}
+use Rattle.zone_build.proofs.SoaLemmas.{first_in}
+use Rattle.zone_build.proofs.OneZoneLemmas.{one_first, begins_soa, one_soa, one_built}
 
 -- all records are inside, and no owner has a CNAME beside anything else
 abbrev AllInside : List Record → Type 0
@@ -29,8 +29,8 @@ abbrev HasNoLarge : List Record → Type 0
 HasNoLarge given = (zone : Zone) × IsBuilt given zone × ((one : Record) → Contains zone.records one → ¬ IsLarge zone.records one)
 
 -- which fault it is, test after test
-abbrev IsCut : List Record → ZoneFault → Type 0
-IsCut given f = (place : ℕ) × (one : Record) × IsFirst IsWildcardCut given place one × (f ≡ fault.WildcardCut (folded_labels one.owner))
+abbrev IsCutFault : List Record → ZoneFault → Type 0
+IsCutFault given f = (place : ℕ) × (one : Record) × IsFirst IsWildcardCut given place one × (f ≡ fault.WildcardCut (folded_labels one.owner))
 
 abbrev IsTooLarge : List Record → ZoneFault → Type 0
 IsTooLarge given f =
@@ -45,7 +45,7 @@ abbrev IsOutside : List Record → ZoneFault → Type 0
 IsOutside given f = (place : ℕ) × (one : Record) × IsFirst (λ r. ¬ IsInside given r) given place one × (f ≡ fault.OutOfZone place)
 
 abbrev FromLarge : List Record → ZoneFault → Type 0
-FromLarge given f = IsTooLarge given f ⊎ (HasNoLarge given × IsCut given f)
+FromLarge given f = IsTooLarge given f ⊎ (HasNoLarge given × IsCutFault given f)
 
 abbrev FromClash : List Record → ZoneFault → Type 0
 FromClash given f = IsClash given f ⊎ (NoneClashes given × FromLarge given f)
@@ -53,13 +53,13 @@ FromClash given f = IsClash given f ⊎ (NoneClashes given × FromLarge given f)
 abbrev FromOutside : List Record → ZoneFault → Type 0
 FromOutside given f = IsOutside given f ⊎ (AllInside given × FromClash given f)
 
-abbrev FromStarts : List Record → ZoneFault → Type 0
-FromStarts given f = (¬ HasOneStart given × (f ≡ fault.TwoSoa)) ⊎ (HasOneStart given × FromOutside given f)
+abbrev FromSoas : List Record → ZoneFault → Type 0
+FromSoas given f = (¬ HasOneSoa given × (f ≡ fault.TwoSoa)) ⊎ (HasOneSoa given × FromOutside given f)
 
-abbrev FromStart : List Record → ZoneFault → Type 0
-FromStart given f = (¬ HasSoa given × (f ≡ fault.NoSoa)) ⊎ (HasSoa given × FromStarts given f)
+abbrev FromSoa : List Record → ZoneFault → Type 0
+FromSoa given f = (¬ HasSoa given × (f ≡ fault.NoSoa)) ⊎ (HasSoa given × FromSoas given f)
 
-tested : (given : List Record) (f : ZoneFault) → IsZoneFault given f → f ≢ fault.Memory → FromStart given f
+tested : (given : List Record) (f : ZoneFault) → IsZoneFault given f → f ≢ fault.Memory → FromSoa given f
 tested given fault.NoSoa h m = inl (h, refl)
 tested given fault.TwoSoa h m = inr (h.0, inl (h.1, refl))
 tested given (fault.OutOfZone place) h m = inr (h.0, inr (h.1, inl (place, h.2.0, h.2.1, refl)))
@@ -95,7 +95,7 @@ tested given fault.Memory h m = absurd (m refl)
 clashing : (given : List Record) (owner : Labels) → NoneClashes given → Clashes given owner → ⊥
 clashing given owner none (one, other, c, d, a, b, k, differ) = differ (none one other c d k (a ∙ sym b))
 
-one_cut : (given : List Record) (f g : ZoneFault) → IsCut given f → IsCut given g → f ≡ g
+one_cut : (given : List Record) (f g : ZoneFault) → IsCutFault given f → IsCutFault given g → f ≡ g
 one_cut given f g (place, one, first, is) (place', one', first', is') =
     is ∙ ap (λ (r : Record). fault.WildcardCut (folded_labels r.owner)) (one_first IsWildcardCut given place place' one one' first first').1 ∙ sym is'
 
@@ -131,41 +131,41 @@ one_outside given f g (inr (all, more)) (inl (place, one, first, is)) =
     absurd (first.here (all one (first_in (λ r. ¬ IsInside given r) given place one first)))
 one_outside given f g (inr (all, more)) (inr (all', more')) = one_clash given f g more more'
 
-one_starts : (given : List Record) (f g : ZoneFault) → FromStarts given f → FromStarts given g → f ≡ g
-one_starts given f g (inl a) (inl b) = a.1 ∙ sym b.1
-one_starts given f g (inl a) (inr b) = absurd (a.0 b.0)
-one_starts given f g (inr a) (inl b) = absurd (b.0 a.0)
-one_starts given f g (inr a) (inr b) = one_outside given f g a.1 b.1
+one_of_soa : (given : List Record) (f g : ZoneFault) → FromSoas given f → FromSoas given g → f ≡ g
+one_of_soa given f g (inl a) (inl b) = a.1 ∙ sym b.1
+one_of_soa given f g (inl a) (inr b) = absurd (a.0 b.0)
+one_of_soa given f g (inr a) (inl b) = absurd (b.0 a.0)
+one_of_soa given f g (inr a) (inr b) = one_outside given f g a.1 b.1
 
-one_start : (given : List Record) (f g : ZoneFault) → FromStart given f → FromStart given g → f ≡ g
-one_start given f g (inl a) (inl b) = a.1 ∙ sym b.1
-one_start given f g (inl a) (inr b) = absurd (a.0 b.0)
-one_start given f g (inr a) (inl b) = absurd (b.0 a.0)
-one_start given f g (inr a) (inr b) = one_starts given f g a.1 b.1
+one_soa_of : (given : List Record) (f g : ZoneFault) → FromSoa given f → FromSoa given g → f ≡ g
+one_soa_of given f g (inl a) (inl b) = a.1 ∙ sym b.1
+one_soa_of given f g (inl a) (inr b) = absurd (a.0 b.0)
+one_soa_of given f g (inr a) (inl b) = absurd (b.0 a.0)
+one_soa_of given f g (inr a) (inr b) = one_of_soa given f g a.1 b.1
 
 pub one_fault : (given : List Record) (one other : ZoneFault) → IsZoneFault given one → IsZoneFault given other
     → one ≢ fault.Memory → other ≢ fault.Memory → one ≡ other
-one_fault given one other a b m n = one_start given one other (tested given one a m) (tested given other b n)
+one_fault given one other a b m n = one_soa_of given one other (tested given one a m) (tested given other b n)
 
 -- records that make a valid zone pass all tests
 built_soa : (given : List Record) (zone : Zone) → IsBuilt given zone → HasSoa given
 built_soa given zone built =
-    let start = begins_start zone.records built.order in
-    let f = built.kept start.0 start.1 in
-    (f.0, first_in (AreRepeats start.0) given f.1.0 f.0 f.1.1, sym f.2.kind ∙ start.2)
+    let the_soa = begins_soa zone.records built.order in
+    let f = built.kept the_soa.0 the_soa.1 in
+    (f.0, first_in (AreRepeats the_soa.0) given f.1.0 f.0 f.1.1, sym f.2.kind ∙ the_soa.2)
 
-built_starts : (given : List Record) (zone : Zone) → IsBuilt given zone → HasOneStart given
-built_starts given zone built one other c d k l =
+built_has_one_soa : (given : List Record) (zone : Zone) → IsBuilt given zone → HasOneSoa given
+built_has_one_soa given zone built one other c d k l =
     let f = built.all one c in
     let g = built.all other d in
     let same : f.0 ≡ g.0 = one_soa zone.records f.0 g.0 built.order f.1 g.1 (sym f.2.0.1 ∙ k) (sym g.2.0.1 ∙ l) in
     alike_trans Whole one g.0 other (subst (AreRepeats one) same f.2) (alike_sym Whole other g.0 g.2)
 
 built_inside : (given : List Record) (zone : Zone) → IsBuilt given zone → IsValid zone → AllInside given
-built_inside given zone built valid one c start d k =
+built_inside given zone built valid one c the_soa d k =
     let f = built.all one c in
-    let apexes : AreSame zone.apex start.owner = ap folded_labels (built.apex start d k) ∙ sym (same_folded start.owner) in
-    below_same_top one.owner zone.apex start.owner apexes (below_same_name f.0.owner one.owner zone.apex (sym f.2.0.0) (valid.inside f.0 f.1))
+    let apexes : AreSame zone.apex the_soa.owner = ap folded_labels (built.apex the_soa d k) ∙ sym (same_folded the_soa.owner) in
+    below_same_top one.owner zone.apex the_soa.owner apexes (below_same_name f.0.owner one.owner zone.apex (sym f.2.0.0) (valid.inside f.0 f.1))
 
 built_unmixed : (given : List Record) (zone : Zone) → IsBuilt given zone → IsValid zone → NoneClashes given
 built_unmixed given zone built valid one other c d k same =
@@ -186,9 +186,9 @@ built_cuts given zone one built valid c (k, (rest, is)) =
     let f = built.all one c in
     valid.cuts f.0 f.1 (sym f.2.0.1 ∙ k) (folded_labels rest, sym (valid.folded f.0 f.1) ∙ sym f.2.0.0 ∙ ap folded_labels is)
 
-none_tested : (given : List Record) (zone : Zone) (f : ZoneFault) → IsBuilt given zone → IsValid zone → FromStart given f → ⊥
+none_tested : (given : List Record) (zone : Zone) (f : ZoneFault) → IsBuilt given zone → IsValid zone → FromSoa given f → ⊥
 none_tested given zone f built valid (inl (none, is)) = none (built_soa given zone built)
-none_tested given zone f built valid (inr (some, inl (differ, is))) = differ (built_starts given zone built)
+none_tested given zone f built valid (inr (some, inl (differ, is))) = differ (built_has_one_soa given zone built)
 none_tested given zone f built valid (inr (some, inr (one, inl (place, out, first, is)))) =
     first.here (built_inside given zone built valid out (first_in (λ r. ¬ IsInside given r) given place out first))
 none_tested given zone f built valid (inr (some, inr (one, inr (all, inl (place, mixed, first, is))))) =

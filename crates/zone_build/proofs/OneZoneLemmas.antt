@@ -12,10 +12,10 @@ use Rattle.dns_wire.specs.declared.content.Content.{Content}
 use Rattle.dns_wire.specs.declared.record.Record.{Record}
 use Rattle.zone_build.specs.Zone.{Zone, AreRepeats, IsRising, IsCanonical, order_of}
 use Rattle.zone_build.specs.Built.{IsFirst, IsLeastTtl, IsKept, IsBuilt}
-use Rattle.zone_build.specs.declared.key.Key.TheVariants.{Whole}
+use Rattle.zone_build.specs.declared.entry.Key.TheVariants.{Whole}
 use Rattle.zone_build.proofs.ListLemmas.{AllByRecursion-contains}
 use Rattle.zone_build.proofs.OrderLemmas.{order_of-total, alike_sym, alike_trans}
-use Rattle.zone_build.proofs.StartLemmas.{first_in, first_same}
+use Rattle.zone_build.proofs.SoaLemmas.{first_in, first_same}
 
 -- the first record of which something holds is one, at one place
 earlier_first : (P : Record → Type 0) (xs : List Record) (place place' : ℕ) (one other : Record)
@@ -129,18 +129,18 @@ rising_same (e ∷ one) (f ∷ other) r s to back =
         absurd (both_ways x x self self)
 
 -- canonical records begin with an SOA
-pub begins_start : (records : List Record) → IsCanonical records → (start : Record) × Contains records start × (start.kind ≡ soa)
-begins_start [] c = absurd c
-begins_start (start ∷ rest) c = (start, Contains-head start rest, c.0)
+pub begins_soa : (records : List Record) → IsCanonical records → (the_soa : Record) × Contains records the_soa × (the_soa.kind ≡ soa)
+begins_soa [] c = absurd c
+begins_soa (the_soa ∷ rest) c = (the_soa, Contains-head the_soa rest, c.0)
 
 -- there is no other SOA
 pub one_soa : (records : List Record) (one other : Record) → IsCanonical records → Contains records one
     → Contains records other → one.kind ≡ soa → other.kind ≡ soa → one ≡ other
 one_soa [] one other c a b k l = absurd c
-one_soa (start ∷ rest) one other c a b k l = at_head one a k ∙ sym (at_head other b l)
+one_soa (the_soa ∷ rest) one other c a b k l = at_head one a k ∙ sym (at_head other b l)
   where
-    at_head : (r : Record) → Contains (start ∷ rest) r → r.kind ≡ soa → r ≡ start
-    at_head r d h = elim (head_or_after start rest r d) [
+    at_head : (r : Record) → Contains (the_soa ∷ rest) r → r.kind ≡ soa → r ≡ the_soa
+    at_head r d h = elim (head_or_after the_soa rest r d) [
       | inl here ↦ here
       | inr after ↦ absurd (AllByRecursion-contains (λ (y : Record). y.kind ≢ soa) rest r c.1 after h)
     ]
@@ -177,10 +177,10 @@ same_parts one other e f =
 -- records make one zone
 pub one_built : (given : List Record) (one other : Zone) → IsBuilt given one → IsBuilt given other → one ≡ other
 one_built given one other a b =
-    let start = begins_start one.records a.order in
-    let f = a.kept start.0 start.1 in
-    let c = first_in (AreRepeats start.0) given f.1.0 f.0 f.1.1 in
-    let k : f.0.kind ≡ soa = sym f.2.kind ∙ start.2 in
+    let the_soa = begins_soa one.records a.order in
+    let f = a.kept the_soa.0 the_soa.1 in
+    let c = first_in (AreRepeats the_soa.0) given f.1.0 f.0 f.1.1 in
+    let k : f.0.kind ≡ soa = sym f.2.kind ∙ the_soa.2 in
     let apexes : one.apex ≡ other.apex = a.apex f.0 c k ∙ sym (b.apex f.0 c k) in
     let lists : one.records ≡ other.records =
     canonical_same one.records other.records a.order b.order (kept_in given one other a b)

@@ -28,7 +28,7 @@ pub kind_is : (c : Content) (kind class : ℕ) → IsTrue (belongs kind class c)
 kind_is (content.A address) kind class b w = eqb-true kind a (and_parts (kind == a) (class == internet) b).0
 kind_is (content.Ns server) kind class b w = eqb-true kind ns (and_parts (kind == ns) (class == internet) b).0
 kind_is (content.Cname target) kind class b w = eqb-true kind cname (and_parts (kind == cname) (class == internet) b).0
-kind_is (content.Soa start) kind class b w = eqb-true kind soa (and_parts (kind == soa) (class == internet) b).0
+kind_is (content.Soa fields) kind class b w = eqb-true kind soa (and_parts (kind == soa) (class == internet) b).0
 kind_is (content.Ptr name) kind class b w = eqb-true kind ptr (and_parts (kind == ptr) (class == internet) b).0
 kind_is (content.Mx preference exchange) kind class b w = eqb-true kind mx (and_parts (kind == mx) (class == internet) b).0
 kind_is (content.Txt texts) kind class b w =
@@ -49,7 +49,7 @@ pub compared_whole : (said : Content) → IsNoRule said → rdata_of said ≡ co
 compared_whole (content.A address) none = refl
 compared_whole (content.Ns server) none = refl
 compared_whole (content.Cname target) none = refl
-compared_whole (content.Soa start) none = refl
+compared_whole (content.Soa fields) none = refl
 compared_whole (content.Ptr name) none = refl
 compared_whole (content.Mx preference exchange) none = refl
 compared_whole (content.Txt texts) none = refl
@@ -64,7 +64,7 @@ pub only_rules : (said : Content) → IsNoRule said → kind_of said ≡ naptr �
 only_rules (content.A address) none is = omega (arith, is)
 only_rules (content.Ns server) none is = omega (arith, is)
 only_rules (content.Cname target) none is = omega (arith, is)
-only_rules (content.Soa start) none is = omega (arith, is)
+only_rules (content.Soa fields) none is = omega (arith, is)
 only_rules (content.Ptr name) none is = omega (arith, is)
 only_rules (content.Mx preference exchange) none is = omega (arith, is)
 only_rules (content.Txt texts) none is = omega (arith, is)

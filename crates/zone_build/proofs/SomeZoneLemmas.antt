@@ -10,10 +10,10 @@ use Rattle.dns_wire.specs.Kinds.{soa, cname}
 use Rattle.dns_wire.specs.declared.record.Record.{Record}
 use Rattle.zone_build.specs.Zone.{AreRepeats}
 use Rattle.zone_build.specs.Built.{IsFirst}
-use Rattle.zone_build.specs.Faults.{HasSoa, HasOneStart, IsInside, Clashes, AreInside, AreUnmixed}
-use Rattle.zone_build.specs.declared.key.Key.TheVariants.{Whole}
+use Rattle.zone_build.specs.Faults.{HasSoa, HasOneSoa, IsInside, Clashes, AreInside, AreUnmixed}
+use Rattle.zone_build.specs.declared.entry.Key.TheVariants.{Whole}
 use Rattle.zone_build.proofs.OrderLemmas.{alike_sym, alike_trans}
-use Rattle.zone_build.proofs.StartLemmas.{first_in}
+use Rattle.zone_build.proofs.SoaLemmas.{first_in}
 use Rattle.zone_build.proofs.DecideLemmas.{repeats_or_not}
 
 -- the first of some records has a property
@@ -65,8 +65,8 @@ pub is_soa : (r : Record) → Either (r.kind ≡ soa)
 is_soa r = numbers r.kind soa
 
 -- an SOA, the first of all
-pub start_or_none : (given : List Record) → HasFirst (λ r. r.kind ≡ soa) given ⊎ ¬ HasSoa given
-start_or_none given = made (first_or_none (λ r. r.kind ≡ soa) is_soa given)
+pub soa_or_none : (given : List Record) → HasFirst (λ r. r.kind ≡ soa) given ⊎ ¬ HasSoa given
+soa_or_none given = made (first_or_none (λ r. r.kind ≡ soa) is_soa given)
   where
     made : HasFirst (λ r. r.kind ≡ soa) given ⊎ HasNone (λ r. r.kind ≡ soa) given → HasFirst (λ r. r.kind ≡ soa) given ⊎ ¬ HasSoa given
     made (inl f) = inl f
@@ -74,39 +74,39 @@ start_or_none given = made (first_or_none (λ r. r.kind ≡ soa) is_soa given)
 
 -- all SOA records are repeats of one, or not
 abbrev DiffersFrom : Record → Record → Type 0
-DiffersFrom start r = (r.kind ≡ soa) × ¬ AreRepeats start r
+DiffersFrom the_soa r = (r.kind ≡ soa) × ¬ AreRepeats the_soa r
 
-differs_or_not : (start r : Record) → Either (DiffersFrom start r)
-differs_or_not start r = both (is_soa r) (repeats_or_not start r)
+differs_or_not : (the_soa r : Record) → Either (DiffersFrom the_soa r)
+differs_or_not the_soa r = both (is_soa r) (repeats_or_not the_soa r)
   where
-    both : Either (r.kind ≡ soa) → Either (AreRepeats start r) → Either (DiffersFrom start r)
+    both : Either (r.kind ≡ soa) → Either (AreRepeats the_soa r) → Either (DiffersFrom the_soa r)
     both (inl k) (inr not) = inl (k, not)
     both (inl k) (inl same) = inr (λ d. d.1 same)
     both (inr not) h = inr (λ d. not d.0)
 
-pub one_start_or_not : (given : List Record) (start : Record) → Contains given start → start.kind ≡ soa → Either (HasOneStart given)
-one_start_or_not given start c k = made (some_or_none (DiffersFrom start) (differs_or_not start) given)
+pub one_soa_or_not : (given : List Record) (the_soa : Record) → Contains given the_soa → the_soa.kind ≡ soa → Either (HasOneSoa given)
+one_soa_or_not given the_soa c k = made (some_or_none (DiffersFrom the_soa) (differs_or_not the_soa) given)
   where
-    repeats : ¬ HasSome (DiffersFrom start) given → (one : Record) → Contains given one → one.kind ≡ soa → AreRepeats start one
-    repeats none one d l = elim (repeats_or_not start one) [
+    repeats : ¬ HasSome (DiffersFrom the_soa) given → (one : Record) → Contains given one → one.kind ≡ soa → AreRepeats the_soa one
+    repeats none one d l = elim (repeats_or_not the_soa one) [
       | inl same ↦ same
       | inr not ↦ absurd (none (one, d, (l, not)))
     ]
 
-    made : Either (HasSome (DiffersFrom start) given) → Either (HasOneStart given)
-    made (inl (one, d, (l, not))) = inr (λ all. not (all start one c d k l))
+    made : Either (HasSome (DiffersFrom the_soa) given) → Either (HasOneSoa given)
+    made (inl (one, d, (l, not))) = inr (λ all. not (all the_soa one c d k l))
     made (inr none) = inl (λ one other d e l m.
-        alike_trans Whole one start other (alike_sym Whole start one (repeats none one d l)) (repeats none other e m))
+        alike_trans Whole one the_soa other (alike_sym Whole the_soa one (repeats none one d l)) (repeats none other e m))
 
 -- a record is inside where it is at or below the owner of one SOA
-pub inside_made : (given : List Record) (start r : Record) → Contains given start → start.kind ≡ soa
-    → HasOneStart given → IsBelow r.owner start.owner → IsInside given r
-inside_made given start r c k all b other d l = below_same_top r.owner start.owner other.owner (all start other c d k l).0.0 b
+pub inside_made : (given : List Record) (the_soa r : Record) → Contains given the_soa → the_soa.kind ≡ soa
+    → HasOneSoa given → IsBelow r.owner the_soa.owner → IsInside given r
+inside_made given the_soa r c k all b other d l = below_same_top r.owner the_soa.owner other.owner (all the_soa other c d k l).0.0 b
 
-inside_or_not : (given : List Record) (start r : Record) → Contains given start → start.kind ≡ soa → HasOneStart given → Either (IsInside given r)
-inside_or_not given start r c k all = elim (below_or_not r.owner start.owner) [
-  | inl b ↦ inl (inside_made given start r c k all b)
-  | inr not ↦ inr (λ i. not (i start c k))
+inside_or_not : (given : List Record) (the_soa r : Record) → Contains given the_soa → the_soa.kind ≡ soa → HasOneSoa given → Either (IsInside given r)
+inside_or_not given the_soa r c k all = elim (below_or_not r.owner the_soa.owner) [
+  | inl b ↦ inl (inside_made given the_soa r c k all b)
+  | inr not ↦ inr (λ i. not (i the_soa c k))
 ]
 
 opposite : (P : Type 0) → Either P → Either (P → ⊥)
@@ -117,14 +117,14 @@ both_not : (P : Type 0) → Either P → ((P → ⊥) → ⊥) → P
 both_not P (inl p) h = p
 both_not P (inr not) h = absurd (h not)
 
-pub outside_or_inside : (given : List Record) (start : Record) → Contains given start → start.kind ≡ soa
-    → HasOneStart given → HasFirst (λ r. ¬ IsInside given r) given
+pub outside_or_inside : (given : List Record) (the_soa : Record) → Contains given the_soa → the_soa.kind ≡ soa
+    → HasOneSoa given → HasFirst (λ r. ¬ IsInside given r) given
     ⊎ ((one : Record) → Contains given one → IsInside given one)
-outside_or_inside given start c k all =
+outside_or_inside given the_soa c k all =
     elim (first_or_none (λ r. ¬ IsInside given r)
-    (λ r. opposite (IsInside given r) (inside_or_not given start r c k all)) given) [
+    (λ r. opposite (IsInside given r) (inside_or_not given the_soa r c k all)) given) [
       | inl f ↦ inl f
-      | inr none ↦ inr (λ one d. both_not (IsInside given one) (inside_or_not given start one c k all) (none one d))
+      | inr none ↦ inr (λ one d. both_not (IsInside given one) (inside_or_not given the_soa one c k all) (none one d))
     ]
 
 -- an owner has a CNAME beside something else, or not

@@ -19,8 +19,8 @@ use Rattle.naptr_data.specs.Zones.{Labels}
 use Rattle.zone_build.specs.declared.fault.ZoneFault.{ZoneFault}
 use Rattle.zone_build.specs.declared.fault.ZoneFault.TheVariants as fault
 use Rattle.zone_build.specs.declared.keep.Keep.{Keep}
-use Rattle.zone_build.specs.declared.key.Key.{Key}
-use Rattle.zone_build.specs.declared.key.Key.TheVariants.{Owner, Set, Whole}
+use Rattle.zone_build.specs.declared.entry.Key.{Key}
+use Rattle.zone_build.specs.declared.entry.Key.TheVariants.{Owner, Set, Whole}
 
 -- a given record, and its place in the list
 pub record Given : Type 0 where
@@ -114,8 +114,8 @@ pub record AreMerged (P : Given → Type 0) (R : Given → Record → Type 0) (a
   pub rising : IsRising kept
 
 -- is it an SOA that a zone begins with
-abbrev pub IsAtStart : Bool → Given → Type 0
-IsAtStart start e = (e.given.kind == soa) ≡ start
+abbrev pub IsSoaAs : Bool → Given → Type 0
+IsSoaAs as_soa e = (e.given.kind == soa) ≡ as_soa
 
 -- something else stands where a CNAME stands
 abbrev pub AreMixed : List Given → Type 0
@@ -171,9 +171,9 @@ IsMergedSet set old new =
 
 -- after the SOA, or all but the SOA, was added
 abbrev pub AreMergedSets : Bool → List Given → List Keep → List Keep → Type 0
-AreMergedSets start all old new =
+AreMergedSets as_soa all old new =
     (added : List Chosen) × (new ≡ old ++ map keep_of added) × AreAmong all added
-    × AreMerged (IsAtStart start) (IsKeptOf all) all (map copy_of added)
+    × AreMerged (IsSoaAs as_soa) (IsKeptOf all) all (map copy_of added)
 
 -- the least place of some records
 pub record IsLeastPlace (all : List Given) (place : ℕ) : Type 0 where
@@ -212,28 +212,28 @@ IsApex given apex = (one : Record) → Contains given one → one.kind ≡ soa �
 -- the apex of entries: the folded owner of an SOA of which each other SOA is a repeat
 abbrev pub IsEntryApex : List Given → Labels → Type 0
 IsEntryApex entries apex =
-    (start : Given) × Contains entries start × (start.given.kind ≡ soa) × (apex ≡ folded_labels start.given.owner)
-    × ((e : Given) → Contains entries e → e.given.kind ≡ soa → AreRepeats start.given e.given)
+    (first : Given) × Contains entries first × (first.given.kind ≡ soa) × (apex ≡ folded_labels first.given.owner)
+    × ((e : Given) → Contains entries e → e.given.kind ≡ soa → AreRepeats first.given e.given)
 
 -- why entries have no apex
-abbrev pub IsStartFault : List Given → ZoneFault → Type 0
-IsStartFault entries fault.NoSoa = (e : Given) → Contains entries e → ¬ (e.given.kind ≡ soa)
-IsStartFault entries fault.TwoSoa =
-    (start : Given) × Contains entries start × (start.given.kind ≡ soa)
-    × ¬ ((e : Given) → Contains entries e → e.given.kind ≡ soa → AreRepeats start.given e.given)
-IsStartFault entries (fault.OutOfZone place) = ⊥
-IsStartFault entries (fault.AliasClash name) = ⊥
-IsStartFault entries (fault.SetTooLarge name kind) = ⊥
-IsStartFault entries (fault.WildcardCut name) = ⊥
-IsStartFault entries fault.Memory = ⊥
+abbrev pub IsSoaFault : List Given → ZoneFault → Type 0
+IsSoaFault entries fault.NoSoa = (e : Given) → Contains entries e → ¬ (e.given.kind ≡ soa)
+IsSoaFault entries fault.TwoSoa =
+    (first : Given) × Contains entries first × (first.given.kind ≡ soa)
+    × ¬ ((e : Given) → Contains entries e → e.given.kind ≡ soa → AreRepeats first.given e.given)
+IsSoaFault entries (fault.OutOfZone place) = ⊥
+IsSoaFault entries (fault.AliasClash name) = ⊥
+IsSoaFault entries (fault.SetTooLarge name kind) = ⊥
+IsSoaFault entries (fault.WildcardCut name) = ⊥
+IsSoaFault entries fault.Memory = ⊥
 
 -- what is kept of the SOA records, and then of the others
 abbrev pub IsKeptList : List Given → List Keep → Type 0
 IsKeptList entries keeps =
     (first : List Chosen) × (others : List Chosen) × (keeps ≡ map keep_of first ++ map keep_of others)
     × AreAmong entries first × AreAmong entries others
-    × AreMerged (IsAtStart true) (IsKeptOf entries) entries (map copy_of first)
-    × AreMerged (IsAtStart false) (IsKeptOf entries) entries (map copy_of others)
+    × AreMerged (IsSoaAs true) (IsKeptOf entries) entries (map copy_of first)
+    × AreMerged (IsSoaAs false) (IsKeptOf entries) entries (map copy_of others)
 
 -- what is kept stands at different places of a list of that length
 pub record AreApart (size : ℕ) (keeps : List Keep) : Type 0 where

@@ -15,13 +15,13 @@ abbrev pub HasSoa : List Record → Type 0
 HasSoa given = (one : Record) × Contains given one × (one.kind ≡ soa)
 
 -- all SOA records are repeats
-abbrev pub HasOneStart : List Record → Type 0
-HasOneStart given =
+abbrev pub HasOneSoa : List Record → Type 0
+HasOneSoa given =
     (one other : Record) → Contains given one → Contains given other → one.kind ≡ soa → other.kind ≡ soa → AreRepeats one other
 
 -- a record is at or below the owner of the SOA
 abbrev pub IsInside : List Record → Record → Type 0
-IsInside given one = (start : Record) → Contains given start → start.kind ≡ soa → IsBelow one.owner start.owner
+IsInside given one = (other : Record) → Contains given other → other.kind ≡ soa → IsBelow one.owner other.owner
 
 -- something else stands where a CNAME stands
 abbrev pub Clashes : List Record → Labels → Type 0
@@ -40,7 +40,7 @@ IsLarge records one = (set : List Record) × IsSet records one.owner one.kind se
 -- the records pass the tests before each fault
 pub record AreInside (given : List Record) : Type 0 where
   pub some : HasSoa given
-  pub one : HasOneStart given
+  pub one : HasOneSoa given
   pub inside : (one : Record) → Contains given one → IsInside given one
 
 pub record AreUnmixed (given : List Record) : Type 0 where
@@ -50,9 +50,9 @@ pub record AreUnmixed (given : List Record) : Type 0 where
 -- what each fault says: all tests before it are passed, and its own is not
 abbrev pub IsZoneFault : List Record → ZoneFault → Type 0
 IsZoneFault given fault.NoSoa = ¬ HasSoa given
-IsZoneFault given fault.TwoSoa = HasSoa given × ¬ HasOneStart given
+IsZoneFault given fault.TwoSoa = HasSoa given × ¬ HasOneSoa given
 IsZoneFault given (fault.OutOfZone place) =
-    HasSoa given × HasOneStart given × ((one : Record) × IsFirst (λ r. ¬ IsInside given r) given place one)
+    HasSoa given × HasOneSoa given × ((one : Record) × IsFirst (λ r. ¬ IsInside given r) given place one)
 IsZoneFault given (fault.AliasClash name) =
     AreInside given × ((place : ℕ) × (one : Record) × (name ≡ folded_labels one.owner) × IsFirst (λ r. Clashes given r.owner) given place one)
 IsZoneFault given (fault.SetTooLarge name kind) =

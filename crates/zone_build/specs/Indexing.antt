@@ -1,27 +1,37 @@
 -- The index of a zone, for private functions alone (this project's own): which names it has to find, and under which keys.
-use Rattle.std.specs.Prelude.{◌≡◌, ◌⊎◌, ℕ, zero, suc, ◌*◌, ◌/◌, ◌%◌, ◌^◌, ◌<◌, ◌≤◌, List, [], ◌∷◌, ◌++◌, length, Contains, bit_xor, nat_eq}
+use Rattle.std.specs.Prelude.{◌≡◌, ◌⊎◌, ℕ, zero, suc, ◌+◌, ◌*◌, ◌/◌, ◌%◌, ◌^◌, ◌<◌, ◌≤◌, List, [], ◌∷◌, ◌++◌, length}
+use Rattle.std.specs.Prelude.{take, drop, Contains, nat_eq}
 use Rattle.std.specs.Option.{option_to_list}
 use Rattle.std.specs.Map.{lookup}
 use Rattle.dns_name.specs.Name.{AreSame, IsBelow, folded_labels, wire_of}
 use Rattle.naptr_data.specs.Zones.{Labels}
 use Rattle.dns_wire.specs.declared.record.Record.{Record}
-use Rattle.zone_build.specs.declared.places.Places.{Places}
-use Rattle.zone_build.specs.declared.sought.Sought.{Sought}
-use Rattle.zone_build.specs.declared.sought.Sought.TheVariants.{At, Below}
-use Rattle.zone_build.specs.declared.name_key.TheConstants.{FIRST, FACTOR}
+use Rattle.zone_build.specs.declared.index.Places.{Places}
+use Rattle.zone_build.specs.declared.index.Sought.{Sought}
+use Rattle.zone_build.specs.declared.index.Sought.TheVariants.{At, Below}
 
--- a state with one more byte mixed in
-abbrev pub mixed : ℕ → ℕ → ℕ
-mixed state byte = let product = (bit_xor state byte * FACTOR) % 2 ^ 128 in bit_xor product (product / 2 ^ 64)
+-- a number with one more byte after it, at 64 bits
+abbrev pub joined : ℕ → ℕ → ℕ
+joined number byte = ((number * 256) % 2 ^ 64 + byte) % 2 ^ 64
 
--- the state after some bytes
-unfoldable pub state_after : ℕ → List ℕ → ℕ
-state_after state [] = state
-state_after state (byte ∷ rest) = state_after (mixed state byte) rest
+-- the number after some bytes
+unfoldable pub number_after : ℕ → List ℕ → ℕ
+number_after number [] = number
+number_after number (byte ∷ rest) = number_after (joined number byte) rest
+
+-- a state with one more number: their sum, times the seed, the product reduced in part modulo 2^61 - 1
+abbrev pub mixed : ℕ → ℕ → ℕ → ℕ
+mixed seed state number =
+    let product = ((state + number) % 2 ^ 64 * seed) % 2 ^ 128 in ((product % 2 ^ 61) + (product / 2 ^ 61) % 2 ^ 64) % 2 ^ 64
+
+-- the state after so many numbers of seven bytes each
+abbrev pub state_after : ℕ → List ℕ → ℕ → ℕ
+state_after seed bytes zero = 0
+state_after seed bytes (suc turns) = mixed seed (state_after seed bytes turns) (number_after 0 (take 7 (drop (7 * turns) bytes)))
 
 -- the key of a name, which is that of its folded name
-unfoldable pub key_of : Labels → ℕ
-key_of name = state_after FIRST (wire_of (folded_labels name)) / 2 ^ 64
+unfoldable pub key_of : ℕ → Labels → ℕ
+key_of seed name = let bytes = wire_of (folded_labels name) in state_after seed bytes (length bytes / 7 + 1)
 
 -- the owner and the kind of the record at a place
 abbrev pub owner_at : List Record → ℕ → Labels
@@ -43,8 +53,9 @@ pub record ArePlaces (records : List Record) (places : Places) : Type 0 where
   pub before : (k : ℕ) → 0 < k → k < places.first → ¬ AreSame (owner_at records places.first) (owner_at records k)
   pub after : (k : ℕ) → places.end ≤ k → k < length records → ¬ AreSame (owner_at records places.first) (owner_at records k)
 
--- an index as lists: places under keys, and places whose key was taken
+-- an index as lists, with the seed of its keys: places under keys, and places whose key was taken
 pub record Indexed : Type 0 where
+  pub seed : ℕ
   pub entries : List (ℕ × Places)
   pub rest : List Places
 
@@ -56,7 +67,9 @@ candidates index key = option_to_list (lookup (nat_eq key) index.entries) ++ ind
 pub record IsInserted (old new : Indexed) (key : ℕ) (places : Places) : Type 0 where
   pub added : Contains (candidates new key) places
   pub kept : (other : ℕ) (one : Places) → Contains (candidates old other) one → Contains (candidates new other) one
-  pub only : (other : ℕ) (one : Places) → Contains (candidates new other) one → Contains (candidates old other) one ⊎ (one ≡ places)
+  pub only : (other : ℕ) (one : Places) → Contains (candidates new other) one
+      → ((was : ℕ) × Contains (candidates old was) one) ⊎ (one ≡ places)
+  pub seed : new.seed ≡ old.seed
 
 -- all places of an index are places of records of one owner
 abbrev pub AllPlaces : List Record → Indexed → Type 0
@@ -74,12 +87,12 @@ NoneMeets sought records name list = (one : Places) → Contains list one → ¬
 -- an index of these records: it finds each owner, and each name below the apex that is above an owner
 pub record FindsOwners (records : List Record) (index : Indexed) : Type 0 where
   pub places : AllPlaces records index
-  pub owners : (k : ℕ) → 0 < k → k < length records → ¬ NoneMeets At records (owner_at records k) (candidates index (key_of (owner_at records k)))
+  pub owners : (k : ℕ) → 0 < k → k < length records → ¬ NoneMeets At records (owner_at records k) (candidates index (key_of index.seed (owner_at records k)))
 
 pub record IsIndex (records : List Record) (apex : Labels) (index : Indexed) : Type 0 where
   pub owners : FindsOwners records index
   pub names : (k : ℕ) (name : Labels) → 0 < k → k < length records → IsBelow (owner_at records k) name → IsBelow name apex
-      → ¬ AreSame name apex → ¬ NoneMeets Below records name (candidates index (key_of name))
+      → ¬ AreSame name apex → ¬ NoneMeets Below records name (candidates index (key_of index.seed name))
 
 -- from a place to before that end all records are of one owner, and none after it is
 pub record IsRunEnd (records : List Record) (first end : ℕ) : Type 0 where
@@ -90,7 +103,7 @@ pub record IsRunEnd (records : List Record) (first end : ℕ) : Type 0 where
 
 -- an index finds an owner at or below the name
 abbrev pub HasBelow : List Record → Indexed → Labels → Type 0
-HasBelow records index name = (one : Places) × Contains (candidates index (key_of name)) one × IsBelow (owner_at records one.first) name
+HasBelow records index name = (one : Places) × Contains (candidates index (key_of index.seed name)) one × IsBelow (owner_at records one.first) name
 
 -- an index finds an owner at or below each name that is below the apex and at or above that name
 abbrev pub CoversAbove : List Record → Labels → Labels → Indexed → Type 0
@@ -100,3 +113,13 @@ CoversAbove records apex name index = (above : Labels) → IsBelow name above �
 pub record IsGrown (records : List Record) (old new : Indexed) : Type 0 where
   pub places : AllPlaces records new
   pub kept : (key : ℕ) (one : Places) → Contains (candidates old key) one → Contains (candidates new key) one
+  pub seed : new.seed ≡ old.seed
+
+-- an index finds an owner at or below each name that is below the apex and at or above an owner that stands before a place
+abbrev pub CoversBefore : List Record → Labels → ℕ → Indexed → Type 0
+CoversBefore records apex at index = (k : ℕ) (name : Labels) → 0 < k → k < at → IsBelow (owner_at records k) name → IsBelow name apex
+    → ¬ AreSame name apex → HasBelow records index name
+
+-- an owner that stands before a place is at or below the name
+abbrev pub IsAboveEarlier : List Record → ℕ → Labels → Type 0
+IsAboveEarlier records at name = (k : ℕ) × (0 < k) × (k < at) × IsBelow (owner_at records k) name

@@ -12,7 +12,7 @@ abbrev pub item_of : Content → Item
 item_of (content.A address) = other
 item_of (content.Ns server) = delegation
 item_of (content.Cname target) = alias target
-item_of (content.Soa start) = other
+item_of (content.Soa fields) = other
 item_of (content.Ptr name) = other
 item_of (content.Mx preference exchange) = other
 item_of (content.Txt texts) = other

@@ -50,7 +50,7 @@ IsRising (one ∷ rest) = AllByRecursion (λ next. order_of one next ≡ Less) r
 -- records in canonical order: one SOA, and then the others, which rise
 abbrev pub IsCanonical : List Record → Type 0
 IsCanonical [] = ⊥
-IsCanonical (start ∷ rest) = (start.kind ≡ soa) × AllByRecursion (λ one. one.kind ≢ soa) rest × IsRising rest
+IsCanonical (one ∷ rest) = (one.kind ≡ soa) × AllByRecursion (λ other. other.kind ≢ soa) rest × IsRising rest
 
 -- the set of that owner and kind among records: all that are there, side by side
 pub record IsSet (records : List Record) (owner : Labels) (kind : ℕ) (set : List Record) : Type 0 where
@@ -76,7 +76,7 @@ pub record IsValid (zone : Zone) : Type 0 where
   -- one SOA, and no two records that are repeats
   pub order : IsCanonical zone.records
   -- the SOA is at the apex
-  pub start : (one : Record) → Contains zone.records one → one.kind ≡ soa → one.owner ≡ zone.apex
+  pub soa : (one : Record) → Contains zone.records one → one.kind ≡ soa → one.owner ≡ zone.apex
   -- owners are folded, at or below the apex
   pub folded : (one : Record) → Contains zone.records one → folded_labels one.owner ≡ one.owner
   pub inside : (one : Record) → Contains zone.records one → IsBelow one.owner zone.apex

@@ -2,13 +2,10 @@
 ghost use Rattle.std.specs.Prelude.{◌≡◌, ◌<◌, ◌≤◌, ℕ, length, IsTrue, OnOk, IfOk};
 ghost use Rattle.dns_name.specs.Name.{AreSame, IsBelow};
 ghost use Rattle.zone_build.specs.Zone.{IsCanonical};
-ghost use Rattle.zone_build.specs.Indexing.{ArePlaces, AllPlaces, IsIndex, FindsOwners, IsRunEnd, HasBelow, CoversAbove, IsGrown, owner_at};
+ghost use Rattle.zone_build.specs.Indexing.{ArePlaces, AllPlaces, IsIndex, FindsOwners, IsRunEnd, HasBelow, CoversAbove, CoversBefore, IsAboveEarlier, IsGrown, owner_at};
 
-use crate::index::{Index, owner_at};
-use crate::name_key::key_of;
+use crate::index::{Index, Places, Sought, owner_at, seed_of};
 use crate::order::cmp_owners;
-use crate::places::Places;
-use crate::sought::Sought;
 use dns_name::Name;
 use dns_wire::Record;
 use enum_base::MemoryFault;
@@ -20,7 +17,7 @@ pub(crate) fn index_of(alloc: Global, records: &[Record], apex: &Name) -> Result
     requires { IsCanonical records.now }
     ensures { IfOk result (IsIndex records.now apex.now) }
 {
-    let mut index = Index::new(alloc);
+    let mut index = Index::new(alloc, seed_of(records));
     add_owners(&mut index, records)?;
     add_names(&mut index, records, apex)?;
     Ok(index)
@@ -35,7 +32,8 @@ fn add_owners(index: &mut Index, records: &[Record]) -> Result<(), MemoryFault>
     let mut first = 1;
     while first < records.len() {
         let end = end_of(records, first);
-        index.insert(key_of(owner_at(records, first)), Places { first, end })?;
+        let key = index.key_of(owner_at(records, first));
+        index.insert(key, Places { first, end })?;
         first = end;
     }
     Ok(())
@@ -57,7 +55,7 @@ fn add_names(index: &mut Index, records: &[Record], apex: &Name) -> Result<(), M
     Ok(())
 }
 
-// Adds the name and those above it that are below the apex.
+// Adds the names above one that is found, up to the apex or to one that is above an owner that was passed.
 fn add_above(
     index: &mut Index,
     records: &[Record],
@@ -68,35 +66,44 @@ fn add_above(
     requires places { ArePlaces records.now places }
     requires all { AllPlaces records.now index.old }
     requires below { IsBelow (owner_at records.now places.first) name.now }
+    requires before { CoversBefore records.now apex.now places.first index.old }
+    requires there { HasBelow records.now index.old name.now }
     ensures grown { OnOk result (IsGrown records.now index.old index.new) }
     ensures above { OnOk result (CoversAbove records.now apex.now name.now index.new) }
 {
     if name.same(apex) {
         return Ok(());
     }
-    add_name(index, records, places, name)?;
-    match name.parent() {
-        Some(above) => add_above(index, records, apex, places, &above),
-        None => Ok(()),
+    let Some(above) = name.parent() else {
+        return Ok(());
+    };
+    if add_name(index, records, places, &above)? {
+        return Ok(());
     }
+    add_above(index, records, apex, places, &above)
 }
 
-// Adds the name, unless it is found already.
+// Adds the name, unless it is found already, and answers whether it is found for an owner that was passed.
 fn add_name(
     index: &mut Index,
     records: &[Record],
     places: Places,
     name: &Name,
-) -> Result<(), MemoryFault>
+) -> Result<bool, MemoryFault>
     requires places { ArePlaces records.now places }
     requires all { AllPlaces records.now index.old }
     requires below { IsBelow (owner_at records.now places.first) name.now }
     ensures grown { OnOk result (IsGrown records.now index.old index.new) }
     ensures has { OnOk result (HasBelow records.now index.new name.now) }
+    ensures passed { IfOk result (λ passed. IsTrue passed → IsAboveEarlier records.now places.first name.now) }
 {
-    match index.find(records, name, Sought::Below) {
-        Some(_) => Ok(()),
-        None => index.insert(key_of(name), places),
+    let key = index.key_of(name);
+    match index.find_under(key, records, name, Sought::Below) {
+        Some(found) => Ok(found.first < places.first),
+        None => {
+            index.insert(key, places)?;
+            Ok(false)
+        }
     }
 }
 

@@ -1,15 +1,16 @@
-//! Zones.
-ghost use Rattle.std.specs.Prelude.{◌≡◌, ◌↔◌, ◌≤◌, length, Contains, IsTrue, IfOk, IfErr};
+//! Zones of given records.
+ghost use Rattle.std.specs.Prelude.{◌≡◌, ◌↔◌, ◌≤◌, length, Contains, IsTrue, IfOk, IfErr, map, if◌then◌else◌};
+ghost use Rattle.naptr_data.specs.Zones.{holds_one, rules_and_aliases_in};
+ghost use Rattle.zone_build.specs.Plain.{item_of, owned_of};
 
 use crate::arrange::arranged;
 use crate::build::{last_fault, plan_of};
-use crate::count::count_in;
 use crate::fault::ZoneFault;
 use crate::find::{has_below, least_kind_of, set_of};
 use crate::index::Index;
 use crate::indexing::index_of;
 use dns_name::Name;
-use dns_wire::{Record, Records};
+use dns_wire::{Content, Record, Records};
 use std::alloc::Global;
 use std::marker::Model;
 
@@ -19,11 +20,16 @@ pub struct Zone {
     apex: Name,
     records: Vec<Record>,
     index: Index,
+    // How many rules and CNAMEs the records hold.
+    count: usize,
 }
 
 impl Model for Zone {
     ghost use Rattle.zone_build.specs.Zone as zone;
+    ghost use Rattle.std.specs.Prelude.{◌≡◌, ◌≤◌, length, map};
+    ghost use Rattle.naptr_data.specs.Zones.{rules_and_aliases_in};
     ghost use Rattle.zone_build.specs.Indexing.{IsIndex};
+    ghost use Rattle.zone_build.specs.Plain.{owned_of};
 
     ghost Value = { zone.Zone };
 
@@ -32,6 +38,8 @@ impl Model for Zone {
     ghost invariant = { λ z. record {
       valid : zone.IsValid (record { apex = z.apex; records = z.records.items });
       indexed : IsIndex z.records.items z.apex z.index;
+      counted : z.count ≡ rules_and_aliases_in (map owned_of z.records.items);
+      few : z.count ≤ length z.records.items;
     } };
 }
 
@@ -65,6 +73,7 @@ impl Zone {
             Some(fault) => Err(fault),
             None => Ok(Zone {
                 index: index_of(alloc, kept.as_slice(), &plan.apex)?,
+                count: count_in(kept.as_slice()),
                 apex: plan.apex,
                 records: kept,
             }),
@@ -99,7 +108,7 @@ impl Zone {
         ensures count { result ≡ rules_and_aliases_in (plain_of self.now).items }
         ensures few { result ≤ length self.now.records }
     {
-        count_in(self.records())
+        self.count
     }
 
     /// The apex, folded.
@@ -117,4 +126,24 @@ impl Zone {
     {
         self.records.as_slice()
     }
+}
+
+/// The rules and CNAMEs among records.
+pub(crate) fn count_in(records: &[Record]) -> usize
+    ensures count { result ≡ rules_and_aliases_in (map owned_of records.now) }
+    ensures few { result ≤ length records.now }
+{
+    let mut count = 0;
+    for one in records {
+        if is_rule_or_alias(&one.content) {
+            count += 1;
+        }
+    }
+    count
+}
+
+fn is_rule_or_alias(said: &Content) -> bool
+    ensures { (if result then 1 else 0) ≡ holds_one (item_of said.now) }
+{
+    matches!(said, Content::Naptr(_) | Content::Cname(_))
 }

@@ -44,17 +44,17 @@ rising_one (x ∷ records) rising one two h k e =
 canonical_one : (records : List Record) → IsCanonical records → (one two : Record) → one.kind ≡ naptr
     → two.kind ≡ naptr → Contains records one → Contains records two → order_of one two ≡ Equal → one ≡ two
 canonical_one [] canonical one two p q h k e = absurd canonical
-canonical_one (start ∷ records) canonical one two p q h k e =
-    by (head_or_after start records one h) (head_or_after start records two k)
+canonical_one (the_soa ∷ records) canonical one two p q h k e =
+    by (head_or_after the_soa records one h) (head_or_after the_soa records two k)
   where
-    no_start : (r : Record) → r ≡ start → r.kind ≡ naptr → ⊥
-    no_start r i kind =
+    no_soa : (r : Record) → r ≡ the_soa → r.kind ≡ naptr → ⊥
+    no_soa r i kind =
         let same : soa ≡ naptr = sym canonical.0 ∙ sym (ap (λ (v : Record). v.kind) i) ∙ kind in
         absurd (omega (arith, same))
 
-    by : (one ≡ start) ⊎ Contains records one → (two ≡ start) ⊎ Contains records two → one ≡ two
-    by (inl i) d = absurd (no_start one i p)
-    by (inr c) (inl j) = absurd (no_start two j q)
+    by : (one ≡ the_soa) ⊎ Contains records one → (two ≡ the_soa) ⊎ Contains records two → one ≡ two
+    by (inl i) d = absurd (no_soa one i p)
+    by (inr c) (inl j) = absurd (no_soa two j q)
     by (inr c) (inr d) = rising_one records canonical.2 one two c d e
 
 same_rdata : (r s : Naptr) → rank_of r s ≡ Equal → rdata r ≡ rdata s

@@ -1,31 +1,51 @@
 -- How many rules and CNAMEs zones hold.
-use Rattle.std.proofs.Common.{◌≡◌, ℕ, ◌+◌, ◌<◌, ◌≤◌, List, [], ◌∷◌, ◌++◌, length, take, get_or, sym, ap, ◌∙◌, arith}
-use Rattle.naptr_data.specs.Zones.{rules_and_aliases, rules_and_aliases_in}
+use Rattle.std.proofs.Common.{◌≡◌, ℕ, ◌+◌, ◌≤◌, List, [], ◌∷◌, ◌++◌, length, map, sym, ap, ◌∙◌, arith}
+use Rattle.std.proofs.lemmas.List.{map-append}
+use Rattle.std.proofs.lemmas.List.Sums.{sum_by-append}
+use Rattle.naptr_data.specs.Zones.{Item, rule, alias, delegation, other, holds_one, rules_and_aliases, rules_and_aliases_in}
 use Rattle.naptr_data.specs.Zones as plain
+use Rattle.dns_wire.specs.declared.record.Record.{Record}
 use Rattle.zone_build.specs.Zone.{Zone}
-use Rattle.zone_build.specs.Plain.{plain_of, told}
-use Rattle.zone_db.specs.Sets.{record_count, AreZones}
-use Rattle.zone_build.proofs.ListLemmas.{next_of}
-use Rattle.zone_db.proofs.SetLemmas.{count_more, count_front}
+use Rattle.zone_build.specs.Plain.{item_of, owned_of, plain_of, told}
+use Rattle.zone_db.specs.Sets.{record_count, AreZones, IsFull}
+use Rattle.zone_db.proofs.SetLemmas.{not_full}
 
 counts : (zones : List plain.Zone) (z : plain.Zone) → rules_and_aliases (zones ++ z ∷ []) ≡ rules_and_aliases zones + rules_and_aliases_in z.items
 counts [] z = omega arith
 counts (y ∷ zones) z = omega (arith, counts zones z)
 
 -- one more zone is counted
-pub count_zones_more : (zones : List Zone) (i : ℕ) (x : Zone) (n : ℕ) → i < length zones → x ≡ get_or zones i x
-    → n ≡ rules_and_aliases (told (take i zones))
-    → n + rules_and_aliases_in (plain_of x).items ≡ rules_and_aliases (told (take (i + 1) zones))
-count_zones_more zones i x n within is h =
-    ap (λ m. m + rules_and_aliases_in (plain_of x).items) h ∙ sym (counts (told (take i zones)) (plain_of x))
-    ∙ ap rules_and_aliases (sym (next_of plain_of zones i x within is))
+pub counts_with : (zones : List Zone) (zone : Zone) (count n : ℕ) → count ≡ rules_and_aliases (told zones)
+    → n ≡ rules_and_aliases_in (plain_of zone).items → count + n ≡ rules_and_aliases (told (zones ++ zone ∷ []))
+counts_with zones zone count n is more =
+    ap (λ m. m + n) is ∙ ap (λ m. rules_and_aliases (told zones) + m) more ∙ sym (counts (told zones) (plain_of zone))
+    ∙ ap rules_and_aliases (sym (map-append plain_of zones (zone ∷ [])))
 
 -- and they are no more than the records
-pub few_more : (zones : List Zone) (i : ℕ) (x : Zone) (n m : ℕ) → AreZones zones → i < length zones
-    → x ≡ get_or zones i x → n ≤ record_count (take i zones) → m ≤ length x.records
-    → (n + m ≤ record_count (take (i + 1) zones)) × (n + m ≤ 400_000)
-few_more zones i x n m are within is h k =
-    let most = are.records in
-    let more = count_more zones i x within is in
-    let front = count_front zones (i + 1) in
-    (omega (arith, more), omega (arith, more, front, most))
+one_at_most : (item : Item) → holds_one item ≤ 1
+one_at_most (rule r) = omega arith
+one_at_most (alias target) = omega arith
+one_at_most delegation = omega arith
+one_at_most other = omega arith
+
+few_in : (records : List Record) → rules_and_aliases_in (map owned_of records) ≤ length records
+few_in [] = omega arith
+few_in (one ∷ records) = let least = one_at_most (item_of one.content) in let rest = few_in records in omega (arith, least, rest)
+
+few_in_zones : (zones : List Zone) → rules_and_aliases (told zones) ≤ record_count zones
+few_in_zones [] = omega arith
+few_in_zones (zone ∷ zones) =
+    let whole : record_count (zone ∷ zones) ≡ record_count (zone ∷ []) + record_count zones =
+    sum_by-append (λ (z : Zone). length z.records) (zone ∷ []) zones in
+    let first : record_count (zone ∷ []) ≡ length zone.records = omega arith in
+    let few = few_in zone.records in
+    let rest = few_in_zones zones in
+    omega (arith, few, rest, whole, first)
+
+pub few_in_set : (zones : List Zone) (count : ℕ) → AreZones zones → count ≡ rules_and_aliases (told zones) → count ≤ 400_000
+few_in_set zones count are is = let few = few_in_zones zones in let most = are.records in omega (arith, is, few, most)
+
+pub few_with : (zones : List Zone) (zone : Zone) (count n : ℕ) → ¬ IsFull zones zone → count ≡ rules_and_aliases (told zones)
+    → n ≤ length zone.records → count + n ≤ 400_000
+few_with zones zone count n fits is few =
+    let front = few_in_zones zones in let room = (not_full zones zone fits).1 in omega (arith, is, front, few, room)

@@ -22,10 +22,10 @@ pub answered_found : (zone : Zone) (name source : Labels) (asked : ℕ) (f : Fou
     → IsFoundIn zone name asked f
 answered_found zone name source asked found.Outside u s e a = absurd a
 answered_found zone name source asked (found.Cut set) u s e a = absurd a
-answered_found zone name source asked (found.NoName start) u s e a = absurd a
+answered_found zone name source asked (found.NoName the_soa) u s e a = absurd a
 answered_found zone name source asked (found.Alias set) u s e a = (source, u, s, a)
 answered_found zone name source asked (found.Set set) u s e a = (source, u, s, a)
-answered_found zone name source asked (found.NoSet start) u s e a = (source, u, s, e, a)
+answered_found zone name source asked (found.NoSet the_soa) u s e a = (source, u, s, e, a)
 
 pub own_source : (zone : Zone) (name : Labels) → Exists (plain_of zone) name → IsSource (plain_of zone) name name
 own_source zone name e = inl (e, refl)
@@ -43,13 +43,13 @@ pub found_of : (zones : List Zone) (zone : Zone) (name : Labels) (asked : ℕ) (
     → IsFoundIn zone name asked f → IsFound zones name asked f
 found_of zones zone name asked found.Outside d h = absurd h
 found_of zones zone name asked (found.Cut set) d (owner, highest, s) = (zone, owner, d, highest, s)
-found_of zones zone name asked (found.NoName start) d (source, u, s, not, is) =
+found_of zones zone name asked (found.NoName the_soa) d (source, u, s, not, is) =
     (zone, source, record { decides = d; uncut = u; stands_for = s }, not, is)
 found_of zones zone name asked (found.Alias set) d (source, u, s, a) =
     (zone, source, record { decides = d; uncut = u; stands_for = s }, a.0, a.1)
 found_of zones zone name asked (found.Set set) d (source, u, s, (kind, not, answered, is)) =
     (zone, source, kind, record { decides = d; uncut = u; stands_for = s }, not, answered, is)
-found_of zones zone name asked (found.NoSet start) d (source, u, s, e, (not, none, is)) =
+found_of zones zone name asked (found.NoSet the_soa) d (source, u, s, e, (not, none, is)) =
     (zone, source, record { decides = d; uncut = u; stands_for = s }, e, not, none, is)
 
 -- the deciding zone, one zone after another
@@ -82,7 +82,13 @@ deciding_first zones name more b none = record {
   longest = λ z c h. elim (among_zones zones more z c) [ inl old ↦ absurd (none z old h) | inr new ↦ inl new ];
 }
 
-longer_or_not : (n m : ℕ) → (n < m) ⊎ (m ≤ n)
+-- a name above another one is shorter
+pub shorter : (one other : Labels) → ¬ AreSame one other → IsBelow one other → length other < length one
+shorter one other not ([], back, parts, same) = absurd (not (ap folded_labels parts ∙ same))
+shorter one other not (label ∷ front, back, parts, same) =
+    omega (arith, ap length parts, length-append front back, length_same back other same)
+
+pub longer_or_not : (n m : ℕ) → (n < m) ⊎ (m ≤ n)
 longer_or_not n m = grind arith
 
 -- one that is above the best so far is shorter, for they have not the same apex
@@ -96,11 +102,6 @@ deciding_kept zones name zone more apart below d = record {
     | inr new ↦ inr (subst (λ (y : Zone). length y.apex < length zone.apex) (sym new) (shorter zone.apex more.apex apart below))
   ];
 }
-  where
-    shorter : (one other : Labels) → ¬ AreSame one other → IsBelow one other → length other < length one
-    shorter one other not ([], back, parts, same) = absurd (not (ap folded_labels parts ∙ same))
-    shorter one other not (l ∷ front, back, parts, same) =
-        omega (arith, ap length parts, length-append front back, length_same back other same)
 
 pub deciding_longer : (zones : List Zone) (name : Labels) (zone more : Zone) → IsBelow name more.apex
     → ¬ IsBelow zone.apex more.apex → IsDeciding zones name (Some zone)

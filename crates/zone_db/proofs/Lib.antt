@@ -8,3 +8,4 @@ pub mod OneFoundLemmas
 pub mod RuleLemmas
 pub mod SeekLemmas
 pub mod SetLemmas
+pub mod SomeFoundLemmas

@@ -23,7 +23,7 @@ use Rattle.zone_build.proofs.OrderLemmas.{repeats_equal}
 use Rattle.zone_build.proofs.RdataLemmas.{kind_is}
 use Rattle.zone_build.specs.Plain.{item_of, owned_of, plain_of, told}
 use Rattle.zone_db.specs.Sets.{AreApart, AreZones}
-use Rattle.zone_db.specs.LookUp.{Decides, IsCut, IsServed, HasKind, Answers, MeetsAlias, IsAnswered, IsFound, AreRulesOf, ReadsAs}
+use Rattle.zone_db.specs.LookUp.{Decides, IsCut, IsServed, HasKind, AsksFor, MeetsAlias, IsAnswered, IsFound, AreRulesOf, ReadsAs}
 use Rattle.zone_db.specs.declared.found.Found.{Found}
 use Rattle.zone_db.specs.declared.found.Found.TheVariants as found
 use Rattle.zone_build.proofs.ListLemmas.{AllByRecursion-contains}
@@ -34,7 +34,7 @@ item_ns : (c : Content) → kind_of c ≡ ns → IsTrue (is_whole c) → item_of
 item_ns (content.A address) e w = absurd (omega (arith, e))
 item_ns (content.Ns server) e w = refl
 item_ns (content.Cname target) e w = absurd (omega (arith, e))
-item_ns (content.Soa start) e w = absurd (omega (arith, e))
+item_ns (content.Soa fields) e w = absurd (omega (arith, e))
 item_ns (content.Ptr name) e w = absurd (omega (arith, e))
 item_ns (content.Mx preference exchange) e w = absurd (omega (arith, e))
 item_ns (content.Txt texts) e w = absurd (omega (arith, e))
@@ -48,7 +48,7 @@ ns_item : (c : Content) → item_of c ≡ delegation → kind_of c ≡ ns
 ns_item (content.A address) e = absurd (cc)
 ns_item (content.Ns server) e = refl
 ns_item (content.Cname target) e = absurd (cc)
-ns_item (content.Soa start) e = absurd (cc)
+ns_item (content.Soa fields) e = absurd (cc)
 ns_item (content.Ptr name) e = absurd (cc)
 ns_item (content.Mx preference exchange) e = absurd (cc)
 ns_item (content.Txt texts) e = absurd (cc)
@@ -62,7 +62,7 @@ alias_content : (c : Content) (target : Labels) → item_of c ≡ alias target �
 alias_content (content.A address) t e = absurd (cc)
 alias_content (content.Ns server) t e = absurd (cc)
 alias_content (content.Cname name) t e = ap content.Cname (cc)
-alias_content (content.Soa start) t e = absurd (cc)
+alias_content (content.Soa fields) t e = absurd (cc)
 alias_content (content.Ptr name) t e = absurd (cc)
 alias_content (content.Mx preference exchange) t e = absurd (cc)
 alias_content (content.Txt texts) t e = absurd (cc)
@@ -76,7 +76,7 @@ rule_content : (c : Content) (r : Naptr) → item_of c ≡ rule r → c ≡ cont
 rule_content (content.A address) x e = absurd (cc)
 rule_content (content.Ns server) x e = absurd (cc)
 rule_content (content.Cname target) x e = absurd (cc)
-rule_content (content.Soa start) x e = absurd (cc)
+rule_content (content.Soa fields) x e = absurd (cc)
 rule_content (content.Ptr name) x e = absurd (cc)
 rule_content (content.Mx preference exchange) x e = absurd (cc)
 rule_content (content.Txt texts) x e = absurd (cc)
@@ -192,7 +192,7 @@ rule_has zone source r valid s =
     let is = rule_content f.0.content r f.3 in
     (f.0, f.1, (f.2, kind_of_record zone f.0 valid f.1 ∙ ap kind_of is), is)
 
-no_answer : ¬ Answers naptr cname
+no_answer : ¬ AsksFor naptr cname
 no_answer (inl e) = absurd (omega (arith, e))
 no_answer (inr e) = absurd (omega (arith, e))
 
@@ -305,7 +305,7 @@ found_is_offered zones name (found.Set set) o are (zone, source, kind, served, n
       served_told zones name zone source are served,
       rules_told zone source set.now rules valid not s35 of,
     )
-found_is_offered zones name (found.NoSet start) o are (zone, source, served, exists, not, none, is) o_is =
+found_is_offered zones name (found.NoSet the_soa) o are (zone, source, served, exists, not, none, is) o_is =
     let valid = valid_zone zones zone are served.decides.among in
     subst (IsOffer (told zones) name) (sym o_is) (
       plain_of zone,
@@ -314,7 +314,7 @@ found_is_offered zones name (found.NoSet start) o are (zone, source, served, exi
       no_rules zone source (no_alias zone source valid not)
           (λ r st. let f = rule_has zone source r valid st in none naptr (f.0, f.1, f.2) (inl refl)),
     )
-found_is_offered zones name (found.NoName start) o are (zone, source, served, not, is) o_is =
+found_is_offered zones name (found.NoName the_soa) o are (zone, source, served, not, is) o_is =
     subst (IsOffer (told zones) name) (sym o_is) (
       plain_of zone,
       source,
@@ -352,7 +352,7 @@ cname_content : (c : Content) → kind_of c ≡ cname → IsTrue (is_whole c) �
 cname_content (content.A address) e w = absurd (omega (arith, e))
 cname_content (content.Ns server) e w = absurd (omega (arith, e))
 cname_content (content.Cname target) e w = (target, refl)
-cname_content (content.Soa start) e w = absurd (omega (arith, e))
+cname_content (content.Soa fields) e w = absurd (omega (arith, e))
 cname_content (content.Ptr name) e w = absurd (omega (arith, e))
 cname_content (content.Mx preference exchange) e w = absurd (omega (arith, e))
 cname_content (content.Txt texts) e w = absurd (omega (arith, e))
@@ -387,5 +387,5 @@ found_is_readable zones name kind (found.Set set) are (zone, source, k, served, 
     let small = valid.small source k set.now s in
     let w = weighs set.now in
     (omega (arith, small, w), rdata_rises zone.records source k set.now valid.order s)
-found_is_readable zones name kind (found.NoSet start) are h = tt
-found_is_readable zones name kind (found.NoName start) are h = tt
+found_is_readable zones name kind (found.NoSet the_soa) are h = tt
+found_is_readable zones name kind (found.NoName the_soa) are h = tt

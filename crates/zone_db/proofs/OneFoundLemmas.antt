@@ -10,7 +10,7 @@ use Rattle.dns_wire.specs.declared.record.Record.{Record}
 use Rattle.zone_build.specs.Zone.{Zone, IsIn, IsSet, IsValid}
 use Rattle.zone_build.specs.Plain.{plain_of}
 use Rattle.zone_db.specs.Sets.{AreZones}
-use Rattle.zone_db.specs.LookUp.{Decides, IsHighestCut, HasKind, Answers, MeetsAlias, IsAnswered, IsStart, IsFound}
+use Rattle.zone_db.specs.LookUp.{Decides, IsHighestCut, HasKind, AsksFor, MeetsAlias, IsAnswered, IsSoaOf, IsFound}
 use Rattle.zone_db.specs.LookUp.{Shown, outside, cut_of, alias_of, set_of, no_set, no_name, shown}
 use Rattle.zone_db.specs.Seeking.{IsUncut}
 use Rattle.zone_db.specs.declared.found.Found.{Found}
@@ -24,7 +24,7 @@ use Rattle.zone_build.proofs.OneZoneLemmas.{one_soa}
 abbrev IsShownThere : Zone → Labels → ℕ → Shown → Type 0
 IsShownThere zone source asked s =
     ((kind : ℕ) × (records : List Record) × IsAnswered zone source asked kind × IsSet zone.records source kind records × (s ≡ set_of records))
-    ⊎ (((kind : ℕ) → HasKind zone source kind → ¬ Answers asked kind) × ((start : Record) × IsStart zone start × (s ≡ no_set start)))
+    ⊎ (((kind : ℕ) → HasKind zone source kind → ¬ AsksFor asked kind) × ((the_soa : Record) × IsSoaOf zone the_soa × (s ≡ no_set the_soa)))
 
 -- at a source that exists
 abbrev IsShownWhere : Zone → Labels → ℕ → Shown → Type 0
@@ -35,7 +35,7 @@ IsShownWhere zone source asked s =
 -- at a source
 abbrev IsShownAt : Zone → Labels → ℕ → Shown → Type 0
 IsShownAt zone source asked s =
-    (¬ Exists (plain_of zone) source × ((start : Record) × IsStart zone start × (s ≡ no_name start)))
+    (¬ Exists (plain_of zone) source × ((the_soa : Record) × IsSoaOf zone the_soa × (s ≡ no_name the_soa)))
     ⊎ (Exists (plain_of zone) source × IsShownWhere zone source asked s)
 
 -- in the zone that decides
@@ -57,8 +57,8 @@ kind_exists zone source kind (one, c, i) =
 found_shown : (zones : List Zone) (name : Labels) (asked : ℕ) (f : Found) → IsFound zones name asked f → IsShown zones name asked (shown f)
 found_shown zones name asked found.Outside none = inl (none, refl)
 found_shown zones name asked (found.Cut s) (zone, owner, d, h, is) = inr (zone, d, inl (owner, s.now, h, is, refl))
-found_shown zones name asked (found.NoName start) (zone, source, served, none, is) =
-    inr (zone, served.decides, inr (source, served.uncut, served.stands_for, inl (none, (start.now, is, refl))))
+found_shown zones name asked (found.NoName the_soa) (zone, source, served, none, is) =
+    inr (zone, served.decides, inr (source, served.uncut, served.stands_for, inl (none, (the_soa.now, is, refl))))
 found_shown zones name asked (found.Alias s) (zone, source, served, meets, is) =
     inr (zone, served.decides, inr (source, served.uncut, served.stands_for, inr (kind_exists zone source cname meets.0, inl (meets, (s.now, is, refl)))))
 found_shown zones name asked (found.Set s) (zone, source, kind, served, not, answered, is) =
@@ -72,8 +72,8 @@ found_shown zones name asked (found.Set s) (zone, source, kind, served, not, ans
         inr (kind_exists zone source kind answered.here, inr (not, inl (kind, s.now, answered, is, refl))),
       ),
     )
-found_shown zones name asked (found.NoSet start) (zone, source, served, exists, not, none, is) =
-    inr (zone, served.decides, inr (source, served.uncut, served.stands_for, inr (exists, inr (not, inr (none, (start.now, is, refl))))))
+found_shown zones name asked (found.NoSet the_soa) (zone, source, served, exists, not, none, is) =
+    inr (zone, served.decides, inr (source, served.uncut, served.stands_for, inr (exists, inr (not, inr (none, (the_soa.now, is, refl))))))
 
 -- one zone decides
 one_zone : (zones : List Zone) (name : Labels) (one other : Zone) → Decides zones name one → Decides zones name other → one ≡ other
@@ -82,8 +82,8 @@ one_zone zones name one other a b = elim (a.longest other b.among b.above) [
   | inr shorter ↦ elim (b.longest one a.among a.above) [ inl same ↦ same | inr shorter' ↦ absurd (omega (arith, shorter, shorter')) ]
 ]
 
-one_start : (zone : Zone) (one other : Record) → IsValid zone → IsStart zone one → IsStart zone other → one ≡ other
-one_start zone one other valid a b = one_soa zone.records one other valid.order a.0 b.0 a.1 b.1
+one_soa_of : (zone : Zone) (one other : Record) → IsValid zone → IsSoaOf zone one → IsSoaOf zone other → one ≡ other
+one_soa_of zone one other valid a b = one_soa zone.records one other valid.order a.0 b.0 a.1 b.1
 
 -- two names that are at or below each other are the same
 below_each : (one other : Labels) → IsBelow one other → IsBelow other one → AreSame one other
@@ -114,8 +114,8 @@ one_there zone source asked s t valid (inl (kind, records, answered, is, e)) (in
     e ∙ ap set_of (one_set zone.records source kind' records records' (subst (λ k. IsSet zone.records source k records) kinds is) is') ∙ sym e'
 one_there zone source asked s t valid (inl (kind, records, answered, is, e)) (inr (none, more)) = absurd (none kind answered.here answered.answers)
 one_there zone source asked s t valid (inr (none, more)) (inl (kind, records, answered, is, e)) = absurd (none kind answered.here answered.answers)
-one_there zone source asked s t valid (inr (none, (start, is, e))) (inr (none', (start', is', e'))) =
-    e ∙ ap no_set (one_start zone start start' valid is is') ∙ sym e'
+one_there zone source asked s t valid (inr (none, (the_soa, is, e))) (inr (none', (the_soa', is', e'))) =
+    e ∙ ap no_set (one_soa_of zone the_soa the_soa' valid is is') ∙ sym e'
 
 one_where : (zone : Zone) (source : Labels) (asked : ℕ) (s t : Shown) → IsValid zone → IsShownWhere zone source asked s
     → IsShownWhere zone source asked t → s ≡ t
@@ -126,8 +126,8 @@ one_where zone source asked s t valid (inr (not, more)) (inl (meets, more')) = a
 one_where zone source asked s t valid (inr (not, more)) (inr (not', more')) = one_there zone source asked s t valid more more'
 
 one_at : (zone : Zone) (source : Labels) (asked : ℕ) (s t : Shown) → IsValid zone → IsShownAt zone source asked s → IsShownAt zone source asked t → s ≡ t
-one_at zone source asked s t valid (inl (none, (start, is, e))) (inl (none', (start', is', e'))) =
-    e ∙ ap no_name (one_start zone start start' valid is is') ∙ sym e'
+one_at zone source asked s t valid (inl (none, (the_soa, is, e))) (inl (none', (the_soa', is', e'))) =
+    e ∙ ap no_name (one_soa_of zone the_soa the_soa' valid is is') ∙ sym e'
 one_at zone source asked s t valid (inl (none, more)) (inr (exists, more')) = absurd (none exists)
 one_at zone source asked s t valid (inr (exists, more)) (inl (none, more')) = absurd (none exists)
 one_at zone source asked s t valid (inr (exists, more)) (inr (exists', more')) = one_where zone source asked s t valid more more'

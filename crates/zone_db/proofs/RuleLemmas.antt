@@ -1,12 +1,12 @@
 -- The rules of a set are in order as they stand.
 use Rattle.std.proofs.Common.{◌≡◌, ◌≢◌, ◌⊎◌, inl, inr, ℕ, zero, suc, ◌+◌, ◌<◌, ◌≤◌, List, [], ◌∷◌, ◌++◌, length, take}
-use Rattle.std.proofs.Common.{drop, get_or, refl, sym, ap, subst, ◌∙◌, arith, length-append}
-use Rattle.std.specs.Prelude.{Contains, ◌↔◌}
+use Rattle.std.proofs.Common.{get_or, refl, sym, ap, subst, ◌∙◌, arith, length-append}
+use Rattle.std.specs.Prelude.{Contains}
 use Rattle.std.specs.List.{AllByRecursion}
 use Rattle.std.specs.declared.cmp.Ordering.TheVariants.{Less}
 use Rattle.std.specs.Ordering.{nat_cmp, ordering_then}
 use Rattle.std.proofs.lemmas.Cmp.{nat_cmp_total, nat_list_cmp_total, tied_itself}
-use Rattle.std.proofs.lemmas.List.{take_more, take_all, take-append-drop}
+use Rattle.std.proofs.lemmas.List.{take_more, take_all}
 use Rattle.std.proofs.lemmas.List.Elements.{Contains-append_left, Contains-append_right, Contains-append_cases, Contains-get_or}
 use Rattle.naptr_data.proofs.CutLemmas.{Contains-head, Contains-after, Contains-none, head_or_after}
 use Rattle.naptr_rule.specs.Rank.{rank_of}
@@ -93,7 +93,7 @@ rule_or_not : (said : Content) → ((rule : Naptr) × (said ≡ content.Naptr ru
 rule_or_not (content.A address) = inr (λ r e. cc)
 rule_or_not (content.Ns server) = inr (λ r e. cc)
 rule_or_not (content.Cname target) = inr (λ r e. cc)
-rule_or_not (content.Soa start) = inr (λ r e. cc)
+rule_or_not (content.Soa fields) = inr (λ r e. cc)
 rule_or_not (content.Ptr name) = inr (λ r e. cc)
 rule_or_not (content.Mx preference exchange) = inr (λ r e. cc)
 rule_or_not (content.Txt texts) = inr (λ r e. cc)

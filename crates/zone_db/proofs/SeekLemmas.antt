@@ -1,9 +1,9 @@
 -- Existing names, closest enclosers, cuts and answers of a zone.
-use Rattle.std.proofs.Common.{◌≡◌, ◌≢◌, ◌⊎◌, inl, inr, ℕ, suc, ◌+◌, ◌<◌, ◌≤◌, List, [], ◌∷◌, ◌++◌, length, map, get_or}
-use Rattle.std.proofs.Common.{Option, Some, None, refl, sym, ap, subst, ◌∙◌, arith, append_assoc, length-append}
+use Rattle.std.proofs.Common.{◌≡◌, ◌≢◌, ◌⊎◌, inl, inr, ℕ, ◌<◌, ◌≤◌, List, [], ◌∷◌, ◌++◌, length, map, get_or}
+use Rattle.std.proofs.Common.{Option, Some, None, refl, sym, ap, subst, ◌∙◌, arith, length-append}
 use Rattle.std.specs.Prelude.{Contains}
 use Rattle.std.specs.List.{flat_map}
-use Rattle.std.proofs.lemmas.List.Elements.{Contains-append_left, Contains-append_right, Contains-append_cases}
+use Rattle.std.proofs.lemmas.List.Elements.{Contains-append_right, Contains-append_cases}
 use Rattle.naptr_data.proofs.CutLemmas.{Contains-head, Contains-after, Contains-none, Contains-middle, head_or_after}
 use Rattle.naptr_data.proofs.BelowLemmas.{below_itself, below_same_top, below_same_name, below_more}
 use Rattle.naptr_data.proofs.DecideLemmas.{below_parts}
@@ -15,8 +15,9 @@ use Rattle.dns_wire.specs.declared.record.Record.{Record}
 use Rattle.zone_build.specs.Zone.{Zone, IsIn, IsSet, IsCanonical, IsValid}
 use Rattle.zone_build.specs.Finding.{IsLeastKindAt}
 use Rattle.zone_build.proofs.IndexLemmas.{below_both}
+use Rattle.zone_build.proofs.SomeSetLemmas.{length-wire}
 use Rattle.zone_build.specs.Plain.{owned_of, plain_of}
-use Rattle.zone_db.specs.LookUp.{IsHighestCut, HasKind, Answers, MeetsAlias, IsAnswered, every}
+use Rattle.zone_db.specs.LookUp.{IsHighestCut, HasKind, AsksFor, MeetsAlias, IsAnswered, every}
 use Rattle.zone_db.specs.Seeking.{IsClosest, IsHighest, IsNsAt, IsLeastKind, IsUncut}
 use Rattle.zone_build.proofs.ListLemmas.{AllByRecursion-contains}
 
@@ -111,10 +112,6 @@ closest_further zone (label ∷ name) above closest is not b (exists, which) =
     ]
 
 -- the wildcard before a closest encloser fits a name
-length-wire : (label : List ℕ) (labels : Labels) → length (wire_of (label ∷ labels)) ≡ suc (length label + length (wire_of labels))
-length-wire label labels =
-    ap (λ l. suc (length l)) (append_assoc label (flat_map label_wire labels) (0 ∷ [])) ∙ ap suc (length-append label (wire_of labels))
-
 pub wildcard_fits : (zone : Zone) (name encloser : Labels) → IsName name → Encloses (plain_of zone) name encloser
     → Some (star ∷ encloser) ≡ name_within (star ∷ encloser)
 wildcard_fits zone name encloser h e =
@@ -208,9 +205,9 @@ set_none records owner kind [] s none one c i = elim (Contains-append_cases s.be
 ]
 
 -- the first record of a valid zone is its SOA
-pub start_first : (records : List Record) (start : Record) → IsCanonical records → start ≡ get_or records 0 start → Contains records start × (start.kind ≡ soa)
-start_first [] start c is = absurd c
-start_first (x ∷ rest) start c is =
+pub soa_first : (records : List Record) (the_soa : Record) → IsCanonical records → the_soa ≡ get_or records 0 the_soa → Contains records the_soa × (the_soa.kind ≡ soa)
+soa_first [] the_soa c is = absurd c
+soa_first (x ∷ rest) the_soa c is =
     (subst (λ r. Contains (x ∷ rest) r) (sym is) (Contains-head x rest), ap (λ (r : Record). r.kind) is ∙ c.0)
 
 -- the least kind that answers
@@ -235,16 +232,16 @@ pub is_answered : (zone : Zone) (source : Labels) (asked kind : ℕ) → IsLeast
 is_answered zone source asked kind (h, least) = record {
   here = (h.0, h.1, (h.2, h.3));
   answers = h.4;
-  least = λ other (one, c, i) answers. let l = least one c i.0 (subst (Answers asked) (sym i.1) answers) in let e = i.1 in omega (arith, l, e);
+  least = λ other (one, c, i) answers. let l = least one c i.0 (subst (AsksFor asked) (sym i.1) answers) in let e = i.1 in omega (arith, l, e);
 }
 
 pub is_unanswered : (zone : Zone) (source : Labels) (asked : ℕ) → IsLeastKind zone.records source asked None
-    → (kind : ℕ) → HasKind zone source kind → ¬ Answers asked kind
-is_unanswered zone source asked none kind (one, c, i) answers = none one c i.0 (subst (Answers asked) (sym i.1) answers)
+    → (kind : ℕ) → HasKind zone source kind → ¬ AsksFor asked kind
+is_unanswered zone source asked none kind (one, c, i) answers = none one c i.0 (subst (AsksFor asked) (sym i.1) answers)
 
 -- an alias is met, or not
 pub alias_met : (zone : Zone) (source : Labels) (asked : ℕ) (set : List Record) → IsSet zone.records source cname set
-    → 0 < length set → ¬ Answers asked cname → MeetsAlias zone source asked
+    → 0 < length set → ¬ AsksFor asked cname → MeetsAlias zone source asked
 alias_met zone source asked set s some not = (set_has zone.records source cname set s some, not)
 
 pub alias_lacking : (zone : Zone) (source : Labels) (asked : ℕ) (set : List Record)

@@ -34,7 +34,7 @@ apart_added (z ∷ zones) zone a not = (
   apart_added zones zone a.1 (λ (y, c, same). not (y, Contains-after z zones y c, same)),
 )
 
-not_full : (zones : List Zone) (zone : Zone) → ¬ IsFull zones zone → (length zones + 1 ≤ 64) × (record_count zones + length zone.records ≤ 400_000)
+pub not_full : (zones : List Zone) (zone : Zone) → ¬ IsFull zones zone → (length zones + 1 ≤ 64) × (record_count zones + length zone.records ≤ 400_000)
 not_full zones zone not = (small (length zones) (λ h. not (inl h)), few (record_count zones + length zone.records) (λ h. not (inr h)))
   where
     small : (n : ℕ) → ¬ (64 ≤ n) → n + 1 ≤ 64

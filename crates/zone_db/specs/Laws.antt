@@ -37,6 +37,10 @@ ZonesShowOneAnswer =
     (zones : List Zone) (name : Labels) (kind : ℕ) (one other : Found) → AreZones zones → IsFound zones name kind one
     → IsFound zones name kind other → shown one ≡ shown other
 
+-- and there is one for every name and kind
+abbrev pub ZonesShowAnAnswer : Type 0
+ZonesShowAnAnswer = (zones : List Zone) (name : Labels) (kind : ℕ) → AreZones zones → (found : Found) × IsFound zones name kind found
+
 -- what is read as an offer from what is found for NAPTR records is what the zones offer as they are told
 abbrev pub FoundIsOffered : Type 0
 FoundIsOffered =

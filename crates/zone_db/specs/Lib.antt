@@ -1,6 +1,9 @@
+pub mod Bits
 pub mod FaultWords
 pub mod Laws
+pub mod Links
 pub mod LookUp
 pub mod Offering
+pub mod Replies
 pub mod Seeking
 pub mod Sets

@@ -50,22 +50,22 @@ abbrev pub HasKind : Zone → Labels → ℕ → Type 0
 HasKind zone name kind = (one : Record) × Contains zone.records one × IsIn name kind one
 
 -- a question for one kind is answered by records of that kind, one for all kinds by every record
-abbrev pub Answers : ℕ → ℕ → Type 0
-Answers asked kind = (asked ≡ kind) ⊎ (asked ≡ every)
+abbrev pub AsksFor : ℕ → ℕ → Type 0
+AsksFor asked kind = (asked ≡ kind) ⊎ (asked ≡ every)
 
 -- an alias is met: a CNAME stands there, and neither CNAMEs nor all kinds are asked for (RFC 1034, 4.3.2, step 3a)
 abbrev pub MeetsAlias : Zone → Labels → ℕ → Type 0
-MeetsAlias zone source asked = HasKind zone source cname × ¬ Answers asked cname
+MeetsAlias zone source asked = HasKind zone source cname × ¬ AsksFor asked cname
 
 -- the kind that is answered: of those there that answer the question the least
 pub record IsAnswered (zone : Zone) (source : Labels) (asked kind : ℕ) : Type 0 where
   pub here : HasKind zone source kind
-  pub answers : Answers asked kind
-  pub least : (other : ℕ) → HasKind zone source other → Answers asked other → kind ≤ other
+  pub answers : AsksFor asked kind
+  pub least : (other : ℕ) → HasKind zone source other → AsksFor asked other → kind ≤ other
 
 -- the SOA of a zone
-abbrev pub IsStart : Zone → Record → Type 0
-IsStart zone one = Contains zone.records one × (one.kind ≡ soa)
+abbrev pub IsSoaOf : Zone → Record → Type 0
+IsSoaOf zone one = Contains zone.records one × (one.kind ≡ soa)
 
 -- what an answer shows: its case with the records of the set, or with the SOA
 pub data Shown : Type 0 where
@@ -81,24 +81,24 @@ shown found.Outside = outside
 shown (found.Cut records) = cut_of records.now
 shown (found.Alias records) = alias_of records.now
 shown (found.Set records) = set_of records.now
-shown (found.NoSet start) = no_set start.now
-shown (found.NoName start) = no_name start.now
+shown (found.NoSet the_soa) = no_set the_soa.now
+shown (found.NoName the_soa) = no_name the_soa.now
 
 -- what is found in zones for a name and a kind
 abbrev pub IsFound : List Zone → Labels → ℕ → Found → Type 0
 IsFound zones name asked found.Outside = (zone : Zone) → Contains zones zone → ¬ IsBelow name zone.apex
 IsFound zones name asked (found.Cut set) =
     (zone : Zone) × (owner : Labels) × Decides zones name zone × IsHighestCut zone name owner × IsSet zone.records owner ns set.now
-IsFound zones name asked (found.NoName start) =
-    (zone : Zone) × (source : Labels) × IsServed zones name zone source × ¬ Exists (plain_of zone) source × IsStart zone start.now
+IsFound zones name asked (found.NoName the_soa) =
+    (zone : Zone) × (source : Labels) × IsServed zones name zone source × ¬ Exists (plain_of zone) source × IsSoaOf zone the_soa.now
 IsFound zones name asked (found.Alias set) =
     (zone : Zone) × (source : Labels) × IsServed zones name zone source × MeetsAlias zone source asked × IsSet zone.records source cname set.now
 IsFound zones name asked (found.Set set) =
     (zone : Zone) × (source : Labels) × (kind : ℕ) × IsServed zones name zone source × ¬ MeetsAlias zone source asked
     × IsAnswered zone source asked kind × IsSet zone.records source kind set.now
-IsFound zones name asked (found.NoSet start) =
+IsFound zones name asked (found.NoSet the_soa) =
     (zone : Zone) × (source : Labels) × IsServed zones name zone source × Exists (plain_of zone) source × ¬ MeetsAlias zone source asked
-    × ((kind : ℕ) → HasKind zone source kind → ¬ Answers asked kind) × IsStart zone start.now
+    × ((kind : ℕ) → HasKind zone source kind → ¬ AsksFor asked kind) × IsSoaOf zone the_soa.now
 
 -- the rules of a set, in the order of rules
 pub record AreRulesOf (set : List Record) (rules : List Naptr) : Type 0 where
@@ -112,5 +112,5 @@ ReadsAs (found.Cut set) o = o ≡ offer.Unserved
 ReadsAs (found.Alias set) o =
     (one : Record) × (target : Labels) × (set.now ≡ one ∷ []) × (one.content ≡ content.Cname target) × (o ≡ offer.Alias target)
 ReadsAs (found.Set set) o = (rules : List Naptr) × AreRulesOf set.now rules × (o ≡ offer.Rules rules)
-ReadsAs (found.NoSet start) o = o ≡ offer.Rules []
-ReadsAs (found.NoName start) o = o ≡ offer.Rules []
+ReadsAs (found.NoSet the_soa) o = o ≡ offer.Rules []
+ReadsAs (found.NoName the_soa) o = o ≡ offer.Rules []

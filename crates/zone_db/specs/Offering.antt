@@ -37,5 +37,5 @@ IsReadable found.Outside = ⊤
 IsReadable (found.Cut set) = ⊤
 IsReadable (found.Alias set) = (one : Record) × (target : Labels) × (set.now ≡ one ∷ []) × (one.content ≡ content.Cname target)
 IsReadable (found.Set set) = (length set.now ≤ 60_000) × RdataRises set.now
-IsReadable (found.NoSet start) = ⊤
-IsReadable (found.NoName start) = ⊤
+IsReadable (found.NoSet the_soa) = ⊤
+IsReadable (found.NoName the_soa) = ⊤

@@ -6,7 +6,7 @@ use Rattle.dns_wire.specs.Kinds.{ns, cname}
 use Rattle.dns_wire.specs.declared.record.Record.{Record}
 use Rattle.zone_build.specs.Zone.{Zone, IsIn, IsSet}
 use Rattle.zone_build.specs.Plain.{plain_of}
-use Rattle.zone_db.specs.LookUp.{IsCut, IsHighestCut, HasKind, Answers, MeetsAlias, IsAnswered, IsStart}
+use Rattle.zone_db.specs.LookUp.{IsCut, IsHighestCut, HasKind, AsksFor, MeetsAlias, IsAnswered, IsSoaOf}
 use Rattle.zone_db.specs.declared.found.Found.{Found}
 use Rattle.zone_db.specs.declared.found.Found.TheVariants as found
 
@@ -33,21 +33,21 @@ IsHighest records apex name (Some cut) =
 
 -- the least kind of the records at a name that answer a question, where one does
 abbrev pub IsLeastKind : List Record → Labels → ℕ → Option ℕ → Type 0
-IsLeastKind records source asked None = (one : Record) → Contains records one → AreSame one.owner source → ¬ Answers asked one.kind
+IsLeastKind records source asked None = (one : Record) → Contains records one → AreSame one.owner source → ¬ AsksFor asked one.kind
 IsLeastKind records source asked (Some kind) =
-    ((one : Record) × Contains records one × AreSame one.owner source × (one.kind ≡ kind) × Answers asked kind)
-    × ((one : Record) → Contains records one → AreSame one.owner source → Answers asked one.kind → kind ≤ one.kind)
+    ((one : Record) × Contains records one × AreSame one.owner source × (one.kind ≡ kind) × AsksFor asked kind)
+    × ((one : Record) → Contains records one → AreSame one.owner source → AsksFor asked one.kind → kind ≤ one.kind)
 
 -- what is answered at a source
 abbrev pub IsAnswer : Zone → Labels → ℕ → Found → Type 0
 IsAnswer zone source asked found.Outside = ⊥
 IsAnswer zone source asked (found.Cut set) = ⊥
-IsAnswer zone source asked (found.NoName start) = ⊥
+IsAnswer zone source asked (found.NoName the_soa) = ⊥
 IsAnswer zone source asked (found.Alias set) = MeetsAlias zone source asked × IsSet zone.records source cname set.now
 IsAnswer zone source asked (found.Set set) =
     (kind : ℕ) × ¬ MeetsAlias zone source asked × IsAnswered zone source asked kind × IsSet zone.records source kind set.now
-IsAnswer zone source asked (found.NoSet start) =
-    ¬ MeetsAlias zone source asked × ((kind : ℕ) → HasKind zone source kind → ¬ Answers asked kind) × IsStart zone start.now
+IsAnswer zone source asked (found.NoSet the_soa) =
+    ¬ MeetsAlias zone source asked × ((kind : ℕ) → HasKind zone source kind → ¬ AsksFor asked kind) × IsSoaOf zone the_soa.now
 
 -- no cut is at or above a name
 abbrev pub IsUncut : Zone → Labels → Type 0
@@ -57,12 +57,12 @@ IsUncut zone name = (owner : Labels) → IsCut zone owner → ¬ IsBelow name ow
 abbrev pub IsFoundIn : Zone → Labels → ℕ → Found → Type 0
 IsFoundIn zone name asked found.Outside = ⊥
 IsFoundIn zone name asked (found.Cut set) = (owner : Labels) × IsHighestCut zone name owner × IsSet zone.records owner ns set.now
-IsFoundIn zone name asked (found.NoName start) =
-    (source : Labels) × IsUncut zone name × IsSource (plain_of zone) name source × ¬ Exists (plain_of zone) source × IsStart zone start.now
+IsFoundIn zone name asked (found.NoName the_soa) =
+    (source : Labels) × IsUncut zone name × IsSource (plain_of zone) name source × ¬ Exists (plain_of zone) source × IsSoaOf zone the_soa.now
 IsFoundIn zone name asked (found.Alias set) =
     (source : Labels) × IsUncut zone name × IsSource (plain_of zone) name source × IsAnswer zone source asked (found.Alias set)
 IsFoundIn zone name asked (found.Set set) =
     (source : Labels) × IsUncut zone name × IsSource (plain_of zone) name source × IsAnswer zone source asked (found.Set set)
-IsFoundIn zone name asked (found.NoSet start) =
+IsFoundIn zone name asked (found.NoSet the_soa) =
     (source : Labels) × IsUncut zone name × IsSource (plain_of zone) name source × Exists (plain_of zone) source
-    × IsAnswer zone source asked (found.NoSet start)
+    × IsAnswer zone source asked (found.NoSet the_soa)

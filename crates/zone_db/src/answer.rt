@@ -1,10 +1,10 @@
 //! What is answered from the records at a name.
 ghost use Rattle.std.specs.Prelude.{◌↔◌, IsTrue};
-ghost use Rattle.zone_db.specs.LookUp.{Answers};
+ghost use Rattle.zone_db.specs.LookUp.{AsksFor};
 ghost use Rattle.zone_db.specs.Seeking.{IsLeastKind, IsAnswer};
 
 use crate::found::Found;
-use crate::start::start_of;
+use crate::soa::soa_of;
 use dns_name::Name;
 use zone_build::Zone;
 
@@ -18,13 +18,13 @@ pub(crate) fn answer<'a>(zone: &'a Zone, source: &Name, asked: u16) -> Found<'a>
     }
     match least_kind(zone, source, asked) {
         Some(kind) => Found::Set(zone.set(source, kind)),
-        None => Found::NoSet(start_of(zone)),
+        None => Found::NoSet(soa_of(zone)),
     }
 }
 
 // Whether a question for one kind is answered by records of another.
 fn answers(asked: u16, kind: u16) -> bool
-    ensures { IsTrue result ↔ Answers asked kind }
+    ensures { IsTrue result ↔ AsksFor asked kind }
 {
     asked == kind || asked == 255
 }

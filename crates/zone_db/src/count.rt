@@ -1,20 +1,17 @@
 //! How many rules and CNAMEs zones hold.
-ghost use Rattle.std.specs.Prelude.{◌≡◌, ◌≤◌};
+ghost use Rattle.std.specs.Prelude.{◌≡◌, ◌++◌, ◌∷◌, []};
 ghost use Rattle.naptr_data.specs.Zones.{rules_and_aliases};
 ghost use Rattle.zone_build.specs.Plain.{told};
-ghost use Rattle.zone_db.specs.Sets.{AreZones};
+ghost use Rattle.zone_db.specs.Sets.{AreZones, IsFull};
 
 use zone_build::Zone;
 
-/// The rules and CNAMEs of zones.
-pub(crate) fn count_in_zones(zones: &[Zone]) -> u32
-    requires { AreZones zones.now }
-    ensures count { result ≡ rules_and_aliases (told zones.now) }
-    ensures few { result ≤ 400_000 }
+/// The rules and CNAMEs of zones and of one more that fits among them.
+pub(crate) fn count_with(count: u32, zones: &[Zone], zone: &Zone) -> u32
+    requires zones { AreZones zones.now }
+    requires fits { ¬ IsFull zones.now zone.now }
+    requires count { count ≡ rules_and_aliases (told zones.now) }
+    ensures { result ≡ rules_and_aliases (told (zones.now ++ zone.now ∷ [])) }
 {
-    let mut count = 0;
-    for zone in zones {
-        count += zone.rules_and_aliases() as u32;
-    }
-    count
+    count + zone.rules_and_aliases() as u32
 }

@@ -1,6 +1,6 @@
 //! Laws of sets of zones, and of look-up in them.
 ghost use Rattle.zone_db.specs.Laws.{ZonesHaveOneAddFault, ZonesFitOrHaveAnAddFault, FittingZonesHaveNoAddFault};
-ghost use Rattle.zone_db.specs.Laws.{ZonesShowOneAnswer, FoundIsOffered, FoundIsReadable, ToldRulesAreApart};
+ghost use Rattle.zone_db.specs.Laws.{ZonesShowOneAnswer, ZonesShowAnAnswer, FoundIsOffered, FoundIsReadable, ToldRulesAreApart};
 
 /// A zone fits into a set or has one fault by which it does not go into it, and none but `Memory` where it fits.
 pub fn one_add_fault()
@@ -12,6 +12,11 @@ pub fn one_add_fault()
 /// Zones show one answer for a name and a kind.
 pub fn one_answer()
     ensures { ZonesShowOneAnswer }
+{}
+
+/// Zones show an answer for every name and kind.
+pub fn some_answer()
+    ensures { ZonesShowAnAnswer }
 {}
 
 /// What is read as an offer from what is found for NAPTR records is the offer of the zones as they are told.

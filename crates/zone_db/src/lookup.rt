@@ -8,7 +8,7 @@ use crate::answer::answer;
 use crate::closest::{closest, exists, wildcard_before};
 use crate::cut::highest_cut;
 use crate::found::Found;
-use crate::start::start_of;
+use crate::soa::soa_of;
 use dns_name::Name;
 use zone_build::Zone;
 
@@ -45,5 +45,5 @@ fn found_at<'a>(zone: &'a Zone, name: &Name, source: &Name, asked: u16) -> Found
     if exists(zone, source) {
         return answer(zone, source, asked);
     }
-    Found::NoName(start_of(zone))
+    Found::NoName(soa_of(zone))
 }

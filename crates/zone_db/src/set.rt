@@ -3,7 +3,7 @@ ghost use Rattle.std.specs.Prelude.{◌≡◌, ◌↔◌, ◌<◌, ◌≤◌, �
 ghost use Rattle.std.specs.Option.{option_map};
 ghost use Rattle.zone_db.specs.Sets.{AreZones, HoldsApex, IsFull, record_count};
 
-use crate::count::count_in_zones;
+use crate::count::count_with;
 use crate::deciding::deciding_zone;
 use crate::fault::AddFault;
 use crate::found::Found;
@@ -17,10 +17,14 @@ use zone_build::Zone;
 #[derive(Drop)]
 pub struct ZoneSet {
     zones: Vec<Zone>,
+    // How many rules and CNAMEs they hold.
+    count: u32,
 }
 
 impl Model for ZoneSet {
-    ghost use Rattle.std.specs.Prelude.{List};
+    ghost use Rattle.std.specs.Prelude.{◌≡◌, List};
+    ghost use Rattle.naptr_data.specs.Zones.{rules_and_aliases};
+    ghost use Rattle.zone_build.specs.Plain.{told};
     ghost use Rattle.zone_build.specs.Zone.{Zone};
     ghost use Rattle.zone_db.specs.Sets.{AreZones};
 
@@ -28,7 +32,10 @@ impl Model for ZoneSet {
 
     ghost view = { λ s. s.zones.items };
 
-    ghost invariant = { λ s. AreZones s.zones.items };
+    ghost invariant = { λ s. record {
+      set : AreZones s.zones.items;
+      counted : s.count ≡ rules_and_aliases (told s.zones.items);
+    } };
 }
 
 impl ZoneSet {
@@ -43,6 +50,7 @@ impl ZoneSet {
     {
         ZoneSet {
             zones: Vec::new(alloc),
+            count: 0,
         }
     }
 
@@ -71,8 +79,12 @@ impl ZoneSet {
         if is_full(self.zones.as_slice(), &zone) {
             return Err((AddFault::Full, zone));
         }
+        let count = count_with(self.count, self.zones.as_slice(), &zone);
         match self.zones.push(zone) {
-            Ok(()) => Ok(()),
+            Ok(()) => {
+                self.count = count;
+                Ok(())
+            }
             Err(failed) => Err((AddFault::Memory, failed.value)),
         }
     }
@@ -82,7 +94,7 @@ impl ZoneSet {
         ensures count { result ≡ rules_and_aliases (told self.now) }
         ensures few { result ≤ 400_000 }
     {
-        count_in_zones(self.zones())
+        self.count
     }
 
     /// The zone that decides of a name: of those with an apex at or above it the one with the longest.

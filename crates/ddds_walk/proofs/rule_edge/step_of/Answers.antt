@@ -1,6 +1,6 @@
 use Rattle.std.proofs.Common.{IsTrue}
 use Rattle.ddds_walk.specs.Clients.{meant}
-use Rattle.ddds_walk.specs.Rules.{HasReplacement}
+use Rattle.rule_check.specs.Fields.{HasReplacement}
 use Rattle.ddds_walk.proofs.GiftLemmas.{no_step}
 use Rattle.ddds_walk.proofs.rule_edge.step_of.Goals as goal
 

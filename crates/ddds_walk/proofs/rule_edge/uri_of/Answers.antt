@@ -1,6 +1,7 @@
 use Rattle.std.proofs.Common.{IsTrue, subst, sym}
 use Rattle.ddds_walk.specs.Clients.{meant}
-use Rattle.ddds_walk.specs.Rules.{HasOutput, IsUri}
+use Rattle.ddds_walk.specs.Rules.{HasOutput}
+use Rattle.rule_check.specs.Uris.{IsUri}
 use Rattle.ddds_walk.proofs.GiftLemmas.{no_uri}
 use Rattle.ddds_walk.proofs.rule_edge.uri_of.Goals as goal
 

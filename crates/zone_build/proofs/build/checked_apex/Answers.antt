@@ -1,9 +1,9 @@
 use Rattle.zone_build.proofs.BuildLemmas.{mixed_within}
-use Rattle.zone_build.proofs.FaultLemmas.{start_fault, outside_fault, mixed_fault, unmixed_apex}
+use Rattle.zone_build.proofs.FaultLemmas.{soa_fault, outside_fault, mixed_fault, unmixed_apex}
 use Rattle.zone_build.proofs.build.checked_apex.Goals as goal
 
 pub returns-in-Err-clause-err : goal.returns-in-Err-clause-err
-returns-in-Err-clause-err c = start_fault c.args.given.now c.args.entries.now c.in-Err.fault c.requires.givens c.in-Err.ensures.err
+returns-in-Err-clause-err c = soa_fault c.args.given.now c.args.entries.now c.in-Err.fault c.requires.givens c.in-Err.ensures.err
 
 pub returns-in-Some-clause-err : goal.returns-in-Some-clause-err
 returns-in-Some-clause-err c =

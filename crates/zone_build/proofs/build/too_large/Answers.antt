@@ -1,4 +1,4 @@
-use Rattle.zone_build.proofs.FaultLemmas.{large_at_start, large_after_start, large_nowhere, canonical_some, canonical_rising, canonical_others}
+use Rattle.zone_build.proofs.FaultLemmas.{large_at_soa, large_after_soa, large_nowhere, canonical_some, canonical_rising, canonical_others}
 use Rattle.zone_build.proofs.build.too_large.Goals as goal
 
 pub split_at-requires : goal.split_at-requires
@@ -12,11 +12,11 @@ first_large-requires-2 c = canonical_others c.args.kept.now c.split_at.result.1.
 
 pub returns-in-Some-clause-first : goal.returns-in-Some-clause-first
 returns-in-Some-clause-first c =
-    large_at_start c.args.kept.now c.split_at.result.0.now c.in-Some.field-0 c.requires c.split_at.ensures.front c.in-Some.ensures.first
+    large_at_soa c.args.kept.now c.split_at.result.0.now c.in-Some.field-0 c.requires c.split_at.ensures.front c.in-Some.ensures.first
 
 pub returns-in-Some-first_large-clause-first : goal.returns-in-Some-first_large-clause-first
 returns-in-Some-first_large-clause-first c =
-    large_after_start c.args.kept.now c.split_at.result.0.now c.split_at.result.1.now c.in-Some-first_large.place
+    large_after_soa c.args.kept.now c.split_at.result.0.now c.split_at.result.1.now c.in-Some-first_large.place
     c.requires c.split_at.ensures.front c.split_at.ensures.back c.in_default.ensures.first
     c.in-Some-first_large.ensures.first
 

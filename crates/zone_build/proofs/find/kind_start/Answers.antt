@@ -1,5 +1,5 @@
 use Rattle.std.proofs.Common.{arith}
-use Rattle.zone_build.proofs.FindLemmas.{between_all, between_upper, between_lower, between_none}
+use Rattle.zone_build.proofs.FindLemmas.{between_upper, between_lower}
 use Rattle.zone_build.proofs.find.kind_start.Goals as goal
 
 pub loop-low-preserved-then-from-kind : goal.loop-low-preserved-then-from-kind

@@ -4,7 +4,7 @@ use Rattle.zone_build.proofs.FindLemmas.{set_renamed, set_lacking}
 use Rattle.zone_build.proofs.find.set_of.Goals as goal
 
 pub set_in-requires-clause-places : goal.set_in-requires-clause-places
-set_in-requires-clause-places c = c.requires.index.places (key_of c.args.owner.now) c.in-Some.places c.in-Some.ensures.there
+set_in-requires-clause-places c = c.requires.index.places (key_of c.args.index.now.seed c.args.owner.now) c.in-Some.places c.in-Some.ensures.there
 
 pub returns-in-Some : goal.returns-in-Some
 returns-in-Some c =

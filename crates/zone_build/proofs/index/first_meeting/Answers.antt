@@ -1,4 +1,4 @@
-use Rattle.std.proofs.Common.{sym, get_or}
+use Rattle.std.proofs.Common.{get_or}
 use Rattle.std.proofs.lemmas.List.Elements.{Contains-get_or}
 use Rattle.zone_build.proofs.IndexLemmas.{none_more, none_turned}
 use Rattle.zone_build.proofs.index.first_meeting.Goals as goal

@@ -29,5 +29,5 @@ returns-in-None c = (
     | else-not-answers-via-else-not-answers w ↦ λ (here, not). not (c.answers.ensures.0 w.if-not-answers.false)
   ],
   is_unanswered c.args.zone.now c.args.source.now c.args.asked c.in-None.ensures,
-  c.start_of.ensures,
+  c.soa_of.ensures,
 )

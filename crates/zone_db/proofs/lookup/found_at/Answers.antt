@@ -13,4 +13,4 @@ returns-then-exists c =
 
 pub returns : goal.returns
 returns c =
-    (c.args.source.now, c.requires.uncut, c.requires.source, (λ e. absurd (cc (c.if-exists.ensures.1 e))), c.start_of.ensures)
+    (c.args.source.now, c.requires.uncut, c.requires.source, (λ e. absurd (cc (c.if-exists.ensures.1 e))), c.soa_of.ensures)

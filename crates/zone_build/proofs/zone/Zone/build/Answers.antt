@@ -1,9 +1,11 @@
-use Rattle.std.proofs.Common.{List, None, ◌≡◌, length, sym, subst}
+use Rattle.std.proofs.Common.{List, None, ◌≡◌, ◌≤◌, length, map, sym, subst}
 use Rattle.std.specs.Prelude.{Contains}
 use Rattle.dns_wire.specs.declared.record.Record.{Record}
 use Rattle.zone_build.specs.Zone.{IsCanonical, IsPlain}
 use Rattle.zone_build.specs.Faults.{IsZoneFault}
 use Rattle.zone_build.specs.Indexing.{IsIndex}
+use Rattle.naptr_data.specs.Zones.{rules_and_aliases_in}
+use Rattle.zone_build.specs.Plain.{owned_of}
 use Rattle.zone_build.specs.Building.{AreApart, IsFirstLarge, IsLastFault, IsPlan}
 use Rattle.zone_build.proofs.PlanLemmas.{plan_apart, plan_made}
 use Rattle.zone_build.proofs.FaultLemmas.{last_is_fault, plan_valid}
@@ -66,6 +68,9 @@ invariant_of-result c =
           (record { apex = plan.apex; records = kept }) plan.keeps.items plan.cut c.requires made.0 made.1
           (subst (λ xs. IsFirstLarge xs None × (plan.cut ≡ None)) c.as_slice-3.ensures.value c.in-None.ensures.none);
       indexed = subst (λ xs. IsIndex xs plan.apex c.in_ok-index_of-in-None.field-0) c.as_slice-in-None.ensures.value c.in_ok-index_of-in-None.ensures;
+      counted = subst (λ xs. c.count_in.result
+          ≡ rules_and_aliases_in (map owned_of xs)) c.as_slice-in-None-2.ensures.value c.count_in.ensures.count;
+      few = subst (λ (xs : List Record). c.count_in.result ≤ length xs) c.as_slice-in-None-2.ensures.value c.count_in.ensures.few;
     }
 
 pub returns-clause-built : goal.returns-clause-built

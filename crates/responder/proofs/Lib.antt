@@ -1,0 +1,10 @@
+pub mod AddedLemmas
+pub mod GlueLemmas
+pub mod LoopLemmas
+pub mod OneReplyLemmas
+pub mod QuestionLemmas
+pub mod ReadyLemmas
+pub mod SendLemmas
+pub mod SizeLemmas
+pub mod SomeReplyLemmas
+pub mod WholeLemmas

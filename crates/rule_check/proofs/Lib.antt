@@ -1,0 +1,5 @@
+pub mod UriLemmas
+pub mod Deciding
+pub mod CheckLemmas
+pub mod OneFaultLemmas
+pub mod SomeFaultLemmas

@@ -1,0 +1,4 @@
+pub mod Checking
+pub mod Fields
+pub mod Uris
+pub mod WellFormed
