@@ -240,7 +240,8 @@ pub owner_lacking : (records : List Record) (index : Indexed) (owner : Labels) �
     → NoneMeets At records owner (candidates index (key_of index.seed owner)) → (k : ℕ) → 0 < k → k < length records
     → ¬ AreSame (owner_at records k) owner
 owner_lacking records index owner finds none k p l same =
-    finds.owners k p l (λ one c m. none one (subst (λ n. Contains (candidates index n) one) (same_keys index.seed (owner_at records k) owner same) c) (m ∙ same))
+    finds.owners k p l (λ one c m. none one (subst (λ n. Contains (candidates index n) one)
+    (same_keys index.seed (owner_at records k) owner same) c) (m ∙ same))
 
 pub set_lacking : (records : List Record) (index : Indexed) (owner : Labels) (kind : ℕ) (set : List Record)
     → IsCanonical records → FindsOwners records index → NoneMeets At records owner (candidates index (key_of index.seed owner))

@@ -402,8 +402,11 @@ covers_apex records apex name index same above b inside not =
     absurd (not (below_both above apex inside (below_same_name name apex above same b)))
 
 pub has_same : (records : List Record) (index : Indexed) (name other : Labels) → AreSame name other → HasBelow records index name → HasBelow records index other
-has_same records index name other same (one, c, b) =
-    (one, subst (λ k. Contains (candidates index k) one) (same_keys index.seed name other same) c, below_same_top (owner_at records one.first) name other same b)
+has_same records index name other same (one, c, b) = (
+  one,
+  subst (λ k. Contains (candidates index k) one) (same_keys index.seed name other same) c,
+  below_same_top (owner_at records one.first) name other same b,
+)
 
 pub covers_more : (records : List Record) (apex name above : Labels) (old new : Indexed) → Some above ≡ parent_of name
     → HasBelow records old name → IsGrown records old new → CoversAbove records apex above new

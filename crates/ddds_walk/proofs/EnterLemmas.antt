@@ -32,9 +32,9 @@ use Rattle.ddds_walk.specs.declared.frame.Frame.{Frame}
 use Rattle.ddds_walk.specs.declared.walker.Turn.{Turn}
 use Rattle.ddds_walk.specs.declared.walker.Turn.TheVariants.{On}
 use Rattle.ddds_walk.specs.declared.walker.Walker.{Walker}
-use Rattle.ddds_walk.proofs.Elements.{distinct_push}
-use Rattle.ddds_walk.proofs.Sound.{past_push, way_push}
-use Rattle.ddds_walk.proofs.StateMore.{state_needed, state_enter}
+use Rattle.ddds_walk.proofs.ElementLemmas.{distinct_push}
+use Rattle.ddds_walk.proofs.SoundLemmas.{past_push, way_push}
+use Rattle.ddds_walk.proofs.TurnLemmas.{state_needed, state_enter}
 
 -- a folded name is folded again to itself
 folded_twice : (bytes : List ℕ) → folded (folded bytes) ≡ folded bytes

@@ -13,11 +13,11 @@ use Rattle.ddds_walk.specs.Order.{Less, Before, AreRising}
 use Rattle.ddds_walk.specs.Rules.{Client, IsEdge}
 use Rattle.ddds_walk.specs.Report.{EndsAt, IsEnd, EndName, name_of, way_of, IsReport}
 use Rattle.ddds_walk.specs.Ways.{last_rank}
-use Rattle.ddds_walk.proofs.Elements.{has_none, has_cons, has_head, has_tail, has_same, has_map, has_unmap}
-use Rattle.ddds_walk.proofs.Order.{less_irrefl, less_trans, less_cases}
-use Rattle.ddds_walk.proofs.Reporting.{last_edge}
-use Rattle.ddds_walk.proofs.Theorems.{same_way}
-use Rattle.ddds_walk.proofs.Told.{one_edge}
+use Rattle.ddds_walk.proofs.ElementLemmas.{has_none, has_cons, has_head, has_tail, has_same, has_map, has_unmap}
+use Rattle.ddds_walk.proofs.OrderLemmas.{less_irrefl, less_trans, less_cases}
+use Rattle.ddds_walk.proofs.ReportLemmas.{last_edge}
+use Rattle.ddds_walk.proofs.LawLemmas.{same_way}
+use Rattle.ddds_walk.proofs.ToldLemmas.{one_edge}
 
 -- the order of derivations is that of their ranks with the place in front
 before_irrefl : (way : Derivation) → Before way way → ⊥

@@ -21,8 +21,8 @@ use Rattle.ddds_walk.specs.declared.report.LoopPath.{LoopPath}
 use Rattle.ddds_walk.specs.declared.report.Outcome.{Outcome}
 use Rattle.ddds_walk.specs.declared.walker.Turn.TheVariants.{On, Done, Back}
 use Rattle.ddds_walk.specs.declared.walker.Walker.{Walker}
-use Rattle.ddds_walk.proofs.State.{state_skip, state_stop}
-use Rattle.ddds_walk.proofs.StateMore.{state_leave, state_end, state_back}
+use Rattle.ddds_walk.proofs.StateLemmas.{state_skip, state_stop}
+use Rattle.ddds_walk.proofs.TurnLemmas.{state_leave, state_end, state_back}
 
 -- what holds of all of a list and of one more
 past_front : (xs ys : List Frame) → AllByRecursion IsPast (xs ++ ys) → AllByRecursion IsPast xs

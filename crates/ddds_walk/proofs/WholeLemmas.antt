@@ -26,10 +26,10 @@ use Rattle.ddds_walk.specs.declared.report.Report.TheVariants as report
 use Rattle.ddds_walk.specs.declared.walker.Turn.{Turn}
 use Rattle.ddds_walk.specs.declared.walker.Turn.TheVariants.{On, Done, Back}
 use Rattle.ddds_walk.specs.declared.walker.Walker.{Walker}
-use Rattle.ddds_walk.proofs.Elements.{has_none}
-use Rattle.ddds_walk.proofs.Entering.{keys_fold}
-use Rattle.ddds_walk.proofs.Kept.{kept_start, kept_enough, kept_missing, past_limit}
-use Rattle.ddds_walk.proofs.StateMore.{state_start}
+use Rattle.ddds_walk.proofs.ElementLemmas.{has_none}
+use Rattle.ddds_walk.proofs.EnterLemmas.{keys_fold}
+use Rattle.ddds_walk.proofs.KeptLemmas.{kept_start, kept_enough, kept_missing, past_limit}
+use Rattle.ddds_walk.proofs.TurnLemmas.{state_start}
 
 pub going_start : ZonesMakeOneOffer → OneOutput → (c : Client) (keys : List Labels) (limit : ℕ) (t : RuleSourceState)
     → length keys ≤ 8 → IsGoing c (map folded_labels keys) limit t t (at_root (map folded_labels keys))

@@ -27,14 +27,14 @@ use Rattle.ddds_walk.specs.declared.report.Outcome.{Outcome}
 use Rattle.ddds_walk.specs.declared.report.Outcome.TheVariants.{Unserved}
 use Rattle.ddds_walk.specs.declared.report.Report.{Report}
 use Rattle.ddds_walk.specs.declared.report.Report.TheVariants as report
-use Rattle.ddds_walk.proofs.Answer.{least_loop}
-use Rattle.ddds_walk.proofs.Bound.{needed_bound}
-use Rattle.ddds_walk.proofs.Elements.{has_none, has_cons, has_head, has_tail, has_same, distinct_push}
-use Rattle.ddds_walk.proofs.Following.{some_edges}
-use Rattle.ddds_walk.proofs.Reporting.{tree_is}
-use Rattle.ddds_walk.proofs.Rooted.{somes, least_in}
-use Rattle.ddds_walk.proofs.State.{edge_steps, way_on, state_skip, state_stop}
-use Rattle.ddds_walk.proofs.StateMore.{state_start, state_leave, state_end, state_enter}
+use Rattle.ddds_walk.proofs.AnswerLemmas.{least_loop}
+use Rattle.ddds_walk.proofs.BoundLemmas.{needed_bound}
+use Rattle.ddds_walk.proofs.ElementLemmas.{has_none, has_cons, has_head, has_tail, has_same, distinct_push}
+use Rattle.ddds_walk.proofs.SomeEdgesLemmas.{some_edges}
+use Rattle.ddds_walk.proofs.ReportLemmas.{tree_is}
+use Rattle.ddds_walk.proofs.RootLemmas.{somes, least_in}
+use Rattle.ddds_walk.proofs.StateLemmas.{edge_steps, way_on, state_skip, state_stop}
+use Rattle.ddds_walk.proofs.TurnLemmas.{state_start, state_leave, state_end, state_enter}
 
 -- a list has an element, or not
 has_or_not : {X : Type 0} → ((x y : X) → Either (x ≡ y)) → (xs : List X) (x : X) → Either (Contains xs x)

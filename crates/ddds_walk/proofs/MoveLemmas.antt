@@ -6,11 +6,11 @@ use Rattle.ddds_walk.specs.Graph.{Graph, Leads}
 use Rattle.ddds_walk.specs.Order.{Less, AreRising}
 use Rattle.ddds_walk.specs.Ways.{Mark, by_domain, Found, EndsAs, ranks_of, marks_of, Walked}
 use Rattle.naptr_data.specs.Sources.{AreDistinct}
-use Rattle.ddds_walk.proofs.Order.{less_trans, less_longer, less_next, less_on, next_rank, enter_rank, rank_cases}
-use Rattle.ddds_walk.proofs.Elements.{cut_last, has_none, has_same}
-use Rattle.ddds_walk.proofs.Graphs.{leads_join, leads_to, leads_by, ends_join, ends_by, ends_marked, ends_by_domain, leads_one, leads_rest, ends_rest}
+use Rattle.ddds_walk.proofs.OrderLemmas.{less_trans, less_longer, less_next, less_on, next_rank, enter_rank, rank_cases}
+use Rattle.ddds_walk.proofs.ElementLemmas.{cut_last, has_none, has_same}
+use Rattle.ddds_walk.proofs.GraphLemmas.{leads_join, leads_to, leads_by, ends_join, ends_by, ends_marked, ends_by_domain, leads_one, leads_rest, ends_rest}
 use Rattle.ddds_walk.specs.Ways.{IsGraph}
-use Rattle.ddds_walk.proofs.Steps.{as_found, fresh_ends}
+use Rattle.ddds_walk.proofs.StepLemmas.{as_found, fresh_ends}
 
 -- the list of ends has one more where P holds, and is as before where it does not
 pub record Adds {V : Type 0} (old new : List (Found V)) (ranks : List ℕ) (mark : Mark V) (P : Type 0) : Type 0 where

@@ -4,7 +4,7 @@ use Rattle.std.specs.Prelude.{Contains}
 use Rattle.std.proofs.lemmas.List.Elements.{Contains-append_right}
 use Rattle.ddds_walk.specs.Graph.{Graph, Leads, Passes}
 use Rattle.ddds_walk.specs.Ways.{IsGraph, Mark, by_rule, by_domain, EndsAs}
-use Rattle.ddds_walk.proofs.Elements.{has_none, has_cons, has_head, has_tail, has_same}
+use Rattle.ddds_walk.proofs.ElementLemmas.{has_none, has_cons, has_head, has_tail, has_same}
 
 module _ {V : Type 0} (g : Graph V) where
   pub leads_join : (a b : List ℕ) (k m d : V) → Leads g k a m → Leads g m b d → Leads g k (a ++ b) d

@@ -16,8 +16,8 @@ use Rattle.ddds_walk.specs.Graph.{Graph, graph_of, Leads}
 use Rattle.ddds_walk.specs.Rules.{Client, Gives, IsEdgeOf}
 use Rattle.ddds_walk.specs.Asking.{Holds}
 use Rattle.ddds_walk.specs.Report.{AreSomeNeeded}
-use Rattle.ddds_walk.proofs.Elements.{has_none, has_cons, has_head, has_tail, has_same, has_cut, has_map}
-use Rattle.ddds_walk.proofs.Told.{one_gift}
+use Rattle.ddds_walk.proofs.ElementLemmas.{has_none, has_cons, has_head, has_tail, has_same, has_cut, has_map}
+use Rattle.ddds_walk.proofs.ToldLemmas.{one_gift}
 
 -- where each of a list brings one thing at most, distinct things that they bring are no more than those that bring one
 module _ {X D : Type 0} (Brings : X → D → Type 0) (count : X → ℕ)

@@ -16,10 +16,10 @@ use Rattle.subst_expr.specs.Laws.{OneOutput, OutputOrNone}
 use Rattle.ddds_walk.specs.Rules.{Client, IsAdmissible, Gives, AreFollowed, IsEdgeOf}
 use Rattle.ddds_walk.specs.declared.edge.Edge.{Edge}
 use Rattle.ddds_walk.specs.declared.edge.Edge.TheVariants.{Step}
-use Rattle.ddds_walk.proofs.Deciding.{admissible_or_not}
-use Rattle.rule_check.proofs.Deciding.{at_most_or_not}
-use Rattle.ddds_walk.proofs.Elements.{has_none, has_cons, has_head, has_tail}
-use Rattle.ddds_walk.proofs.Told.{one_gift, one_chosen}
+use Rattle.ddds_walk.proofs.EdgeLemmas.{admissible_or_not}
+use Rattle.rule_check.proofs.DecideLemmas.{at_most_or_not}
+use Rattle.ddds_walk.proofs.ElementLemmas.{has_none, has_cons, has_head, has_tail}
+use Rattle.ddds_walk.proofs.ToldLemmas.{one_gift, one_chosen}
 
 -- the rules of which a fact holds, in their order
 module _ (P : Naptr → Type 0) (each : (r : Naptr) → Either (P r)) where

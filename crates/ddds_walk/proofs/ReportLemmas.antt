@@ -15,12 +15,12 @@ use Rattle.ddds_walk.specs.Order.{Less, Before, AreRising}
 use Rattle.ddds_walk.specs.Rules.{Client, IsEdge}
 use Rattle.ddds_walk.specs.Report.{EndsAt, IsEnd, EndName, name_of, way_of, IsReport, HasNoLoop, IsNeeded}
 use Rattle.ddds_walk.specs.Ways.{by_rule, by_domain, Found, EndsAs, ranks_of, marks_of, Walked, tree_of, last_rank, mark_of, found_of}
-use Rattle.ddds_walk.proofs.Elements.{has_head, has_tail, has_same, has_map, has_unmap}
-use Rattle.ddds_walk.proofs.Graphs.{ends_join, ends_by, ends_marked}
+use Rattle.ddds_walk.proofs.ElementLemmas.{has_head, has_tail, has_same, has_map, has_unmap}
+use Rattle.ddds_walk.proofs.GraphLemmas.{ends_join, ends_by, ends_marked}
 use Rattle.ddds_walk.specs.Ways.{IsGraph}
-use Rattle.ddds_walk.proofs.Answer.{no_loop, all_found, all_met}
-use Rattle.ddds_walk.proofs.Rooted.{rooted_is, leads_out, no_loop_in}
-use Rattle.ddds_walk.proofs.Told.{one_edge, one_rank, graph_is}
+use Rattle.ddds_walk.proofs.AnswerLemmas.{no_loop, all_found, all_met}
+use Rattle.ddds_walk.proofs.RootLemmas.{rooted_is, leads_out, no_loop_in}
+use Rattle.ddds_walk.proofs.ToldLemmas.{one_edge, one_rank, graph_is}
 
 -- the images by g are distinct where those by f are, if g tells no more apart than f
 distinct_by : {X A B : Type 0} (f : X → A) (g : X → B) (xs : List X)

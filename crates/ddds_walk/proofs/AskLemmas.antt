@@ -11,8 +11,8 @@ use Rattle.ddds_walk.specs.Asking.{more}
 use Rattle.ddds_walk.specs.Kept.{HasKept}
 use Rattle.ddds_walk.specs.Turns.{HasAsked}
 use Rattle.ddds_walk.specs.declared.fault.WalkFault.TheVariants.{Trouble, Memory}
-use Rattle.ddds_walk.proofs.Elements.{distinct_push}
-use Rattle.ddds_walk.proofs.Kept.{kept_more, asks_more}
+use Rattle.ddds_walk.proofs.ElementLemmas.{distinct_push}
+use Rattle.ddds_walk.proofs.KeptLemmas.{kept_more, asks_more}
 
 module _ (limit : ℕ) (t u : RuleSourceState) (asked asked' : List Labels) (next : Labels)
     (once : AreDistinct asked) (room_left : length asked < limit) (new : ¬ Contains asked next) (grew : asked' ≡ asked ++ next ∷ [])

@@ -22,14 +22,14 @@ use Rattle.ddds_walk.specs.declared.report.End.{End}
 use Rattle.ddds_walk.specs.declared.report.LoopPath.{LoopPath}
 use Rattle.ddds_walk.specs.declared.report.Outcome.TheVariants.{Unserved}
 use Rattle.ddds_walk.specs.declared.report.Report.TheVariants as report
-use Rattle.ddds_walk.proofs.Elements.{cut_last, has_none, has_cons, has_same, distinct_push}
-use Rattle.ddds_walk.proofs.Graphs.{leads_join, passes_push}
-use Rattle.ddds_walk.proofs.Steps.{as_found}
-use Rattle.ddds_walk.proofs.Moves.{Adds, start, enter, leave}
-use Rattle.ddds_walk.proofs.Answer.{least_loop, unmet, next_needed, needed_met}
-use Rattle.ddds_walk.proofs.Rooted.{somes, least_in, needed_in, needed_out}
-use Rattle.ddds_walk.proofs.Reporting.{tree_is, has_no_loop, all_done, report}
-use Rattle.ddds_walk.proofs.State.{edge_steps, no_steps, no_stops, some_of, from_root, on_way, way_on}
+use Rattle.ddds_walk.proofs.ElementLemmas.{cut_last, has_none, has_cons, has_same, distinct_push}
+use Rattle.ddds_walk.proofs.GraphLemmas.{leads_join, passes_push}
+use Rattle.ddds_walk.proofs.StepLemmas.{as_found}
+use Rattle.ddds_walk.proofs.MoveLemmas.{Adds, start, enter, leave}
+use Rattle.ddds_walk.proofs.AnswerLemmas.{least_loop, unmet, next_needed, needed_met}
+use Rattle.ddds_walk.proofs.RootLemmas.{somes, least_in, needed_in, needed_out}
+use Rattle.ddds_walk.proofs.ReportLemmas.{tree_is, has_no_loop, all_done, report}
+use Rattle.ddds_walk.proofs.StateLemmas.{edge_steps, no_steps, no_stops, some_of, from_root, on_way, way_on}
 
 module _ (c : Client) (zones : List Zone) (keys : List Labels) (asked : List Labels) (ends : List End) (below : List Frame) (top : Frame)
     (s : IsState c zones keys asked ends below top) where

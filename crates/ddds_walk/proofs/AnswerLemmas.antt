@@ -5,9 +5,9 @@ use Rattle.ddds_walk.specs.Graph.{Graph, Leads, Passes}
 use Rattle.ddds_walk.specs.Order.{Less}
 use Rattle.ddds_walk.specs.Ways.{Mark, Found, EndsAs, IsRound, IsLeastRound, HasNoRound, IsMet, marks_of, Walked}
 use Rattle.naptr_data.specs.Sources.{AreDistinct}
-use Rattle.ddds_walk.proofs.Order.{less_cases, rank_cases}
-use Rattle.ddds_walk.proofs.Elements.{has_none, has_cons, has_map}
-use Rattle.ddds_walk.proofs.Graphs.{leads_join, leads_by, leads_one, leads_rest, passes_one, passes_push, passes_has, passes_cut}
+use Rattle.ddds_walk.proofs.OrderLemmas.{less_cases, rank_cases}
+use Rattle.ddds_walk.proofs.ElementLemmas.{has_none, has_cons, has_map}
+use Rattle.ddds_walk.proofs.GraphLemmas.{leads_join, leads_by, leads_one, leads_rest, passes_one, passes_push, passes_has, passes_cut}
 use Rattle.ddds_walk.specs.Ways.{IsGraph}
 
 module _ {V : Type 0} (g : Graph V) (laws : IsGraph g) (key : V) (done : List V) (found : List (Found V))

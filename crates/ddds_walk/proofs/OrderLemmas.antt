@@ -3,7 +3,7 @@ use Rattle.std.proofs.Common.{◌≡◌, ℕ, zero, suc, ◌<◌, ◌≤◌, ◌
 use Rattle.std.specs.Prelude.{Contains}
 use Rattle.std.proofs.lemmas.List.Elements.{Contains-push_cases}
 use Rattle.ddds_walk.specs.Order.{Less, AreRising}
-use Rattle.ddds_walk.proofs.Elements.{has_none, has_head, has_tail}
+use Rattle.ddds_walk.proofs.ElementLemmas.{has_none, has_head, has_tail}
 
 pub less_irrefl : (xs : List ℕ) → Less xs xs → ⊥
 less_irrefl [] h = h

@@ -11,8 +11,8 @@ use Rattle.ddds_walk.specs.Asking.{more, FetchesEnough, FetchesMissing}
 use Rattle.ddds_walk.specs.Graph.{Graph}
 use Rattle.ddds_walk.specs.Kept.{HasRoom, HasKept}
 use Rattle.ddds_walk.specs.Report.{IsNeeded, AreNeeded}
-use Rattle.ddds_walk.proofs.Counts.{distinct_fits}
-use Rattle.ddds_walk.proofs.Elements.{has_none, has_cons, has_head, has_tail, has_same}
+use Rattle.ddds_walk.proofs.CountLemmas.{distinct_fits}
+use Rattle.ddds_walk.proofs.ElementLemmas.{has_none, has_cons, has_head, has_tail, has_same}
 
 module _ {X : Type 0} where
   has_in : (xs ys : List X) (x : X) → xs ≡ ys → Contains xs x → Contains ys x

@@ -5,7 +5,7 @@ use Rattle.std.proofs.lemmas.List.Elements.{Contains-append_left, Contains-appen
 use Rattle.ddds_walk.specs.Graph.{Graph}
 use Rattle.ddds_walk.specs.Report.{AreNeeded}
 use Rattle.naptr_data.specs.Sources.{AreDistinct}
-use Rattle.ddds_walk.proofs.Elements.{has_cons, has_head, has_tail, has_same, has_cut}
+use Rattle.ddds_walk.proofs.ElementLemmas.{has_cons, has_head, has_tail, has_same, has_cut}
 
 module _ {X : Type 0} where
   -- a list without repeats is no longer than one that has all its elements

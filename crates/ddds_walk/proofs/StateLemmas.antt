@@ -8,17 +8,18 @@ use Rattle.naptr_rule.specs.declared.rule.Naptr.{Naptr}
 use Rattle.ddds_walk.specs.Graph.{graph_of, Leads, LeadsFrom}
 use Rattle.ddds_walk.specs.Report.{IsEnd}
 use Rattle.ddds_walk.specs.Rules.{Client, IsEdge}
-use Rattle.ddds_walk.specs.Ways.{by_rule, Walked, IsGraph, RootedSteps, tree_of, Tells, path_of, domains_of, IsFrame, last_rank, found_of, end_by, derivation_in, IsState}
+use Rattle.ddds_walk.specs.Ways.{by_rule, Walked, IsGraph, RootedSteps, tree_of, Tells, path_of, domains_of, IsFrame}
+use Rattle.ddds_walk.specs.Ways.{last_rank, found_of, end_by, derivation_in, IsState}
 use Rattle.ddds_walk.specs.declared.derivation.Derivation.{Derivation}
 use Rattle.ddds_walk.specs.declared.edge.Edge.{Edge}
 use Rattle.ddds_walk.specs.declared.edge.Edge.TheVariants.{Step, Stop}
 use Rattle.ddds_walk.specs.declared.frame.Frame.{Frame}
 use Rattle.ddds_walk.specs.declared.report.End.{End}
 use Rattle.ddds_walk.specs.declared.report.Outcome.{Outcome}
-use Rattle.ddds_walk.proofs.Elements.{has_same}
-use Rattle.ddds_walk.proofs.Steps.{as_found, skip, stop}
-use Rattle.ddds_walk.proofs.Rooted.{somes, leads_some}
-use Rattle.ddds_walk.proofs.Reporting.{tree_is}
+use Rattle.ddds_walk.proofs.ElementLemmas.{has_same}
+use Rattle.ddds_walk.proofs.StepLemmas.{as_found, skip, stop}
+use Rattle.ddds_walk.proofs.RootLemmas.{somes, leads_some}
+use Rattle.ddds_walk.proofs.ReportLemmas.{tree_is}
 
 -- the edge that is told at the cursor is one of the graph
 pub edge_steps : (c : Client) (zones : List Zone) (keys : List Labels) (domain : Option Labels) (edges : List Edge) (r : ℕ) (m : Labels)

@@ -7,7 +7,7 @@ use Rattle.naptr_data.specs.Zones.{Labels}
 use Rattle.ddds_walk.specs.Ways.{domains_of}
 use Rattle.ddds_walk.specs.declared.frame.Frame.{Frame}
 use Rattle.std.proofs.lemmas.List.{map-append, take_all}
-use Rattle.ddds_walk.proofs.Elements.{has_cons, has_tail}
+use Rattle.ddds_walk.proofs.ElementLemmas.{has_cons, has_tail}
 
 -- a frame that is not at the domain is passed over
 pub among_step : (frames : List Frame) (i : ℕ) (f : Frame) (d : Option Labels) → i < length frames → f ≡ get_or frames i f

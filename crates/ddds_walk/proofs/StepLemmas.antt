@@ -7,9 +7,9 @@ use Rattle.ddds_walk.specs.Graph.{Graph, Leads}
 use Rattle.ddds_walk.specs.Order.{Less, AreRising}
 use Rattle.ddds_walk.specs.Ways.{Mark, by_rule, Found, EndsAs, ranks_of, marks_of, Walked}
 use Rattle.naptr_data.specs.Sources.{AreDistinct}
-use Rattle.ddds_walk.proofs.Order.{less_irrefl, less_trans, less_longer, less_next, less_on, less_begin, next_rank, rising_push}
-use Rattle.ddds_walk.proofs.Elements.{cuts, has_same, has_unmap, distinct_push}
-use Rattle.ddds_walk.proofs.Graphs.{leads_join, leads_from, leads_by, ends_join, ends_by, ends_marked, ends_by_rule, leads_rest, ends_rest}
+use Rattle.ddds_walk.proofs.OrderLemmas.{less_irrefl, less_trans, less_longer, less_next, less_on, less_begin, next_rank, rising_push}
+use Rattle.ddds_walk.proofs.ElementLemmas.{cuts, has_same, has_unmap, distinct_push}
+use Rattle.ddds_walk.proofs.GraphLemmas.{leads_join, leads_from, leads_by, ends_join, ends_by, ends_marked, ends_by_rule, leads_rest, ends_rest}
 use Rattle.ddds_walk.specs.Ways.{IsGraph}
 
 -- the ranks and the mark of an end, as it is kept

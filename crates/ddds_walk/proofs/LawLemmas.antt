@@ -5,8 +5,8 @@ use Rattle.ddds_walk.specs.Graph.{Graph, Passes, LeadsFrom, PassesFrom}
 use Rattle.ddds_walk.specs.Order.{Less, Before}
 use Rattle.ddds_walk.specs.Report.{IsLeastLoop, HasNoLoop, IsNeeded}
 use Rattle.ddds_walk.specs.declared.derivation.Derivation.{Derivation}
-use Rattle.ddds_walk.proofs.Order.{less_cases, less_longer}
-use Rattle.ddds_walk.proofs.Graphs.{leads_one, leads_from, passes_one, passes_at}
+use Rattle.ddds_walk.proofs.OrderLemmas.{less_cases, less_longer}
+use Rattle.ddds_walk.proofs.GraphLemmas.{leads_one, leads_from, passes_one, passes_at}
 use Rattle.ddds_walk.specs.Ways.{IsGraph}
 
 module _ {V : Type 0} (g : Graph V) (keys : List V) where

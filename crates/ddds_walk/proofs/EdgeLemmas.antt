@@ -23,7 +23,7 @@ use Rattle.ddds_walk.specs.declared.report.Outcome.TheVariants.{Uri, Target, Uns
 use Rattle.ddds_walk.proofs.GiftLemmas.{no_name, no_step, no_uri}
 use Rattle.rule_check.specs.Fields.{HasFields, HasRegexp, HasReplacement}
 use Rattle.rule_check.specs.Uris.{IsUri}
-use Rattle.rule_check.proofs.Deciding.{at_most_or_not, both, is_empty, is_true, less_or_not, one_of, regexp_or_not, replacement_or_not, uri_or_not}
+use Rattle.rule_check.proofs.DecideLemmas.{at_most_or_not, both, is_empty, is_true, less_or_not, one_of, regexp_or_not, replacement_or_not, uri_or_not}
 
 module _ (one : OneOutput) (some : OutputOrNone) where
   -- a rule has an output, or none

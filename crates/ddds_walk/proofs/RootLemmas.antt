@@ -8,7 +8,7 @@ use Rattle.ddds_walk.specs.Order.{Less}
 use Rattle.ddds_walk.specs.Report.{IsLoop, IsLeastLoop, HasNoLoop, IsNeeded}
 use Rattle.ddds_walk.specs.Ways.{RootedSteps, RootedStops, rooted, IsRound, IsLeastRound, HasNoRound, IsMet}
 use Rattle.ddds_walk.specs.declared.derivation.Derivation.{Derivation}
-use Rattle.ddds_walk.proofs.Elements.{has_none, has_cons, has_tail, has_same, has_map, has_unmap}
+use Rattle.ddds_walk.proofs.ElementLemmas.{has_none, has_cons, has_tail, has_same, has_map, has_unmap}
 use Rattle.ddds_walk.specs.Ways.{IsGraph}
 
 some_same : (d e : Labels) → Some d ≡ Some e → d ≡ e
