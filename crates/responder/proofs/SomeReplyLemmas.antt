@@ -18,7 +18,7 @@ use Rattle.dns_wire.proofs.LawLemmas.{message_or_break}
 use Rattle.dns_wire.proofs.MessageStandLemmas.{reads_back}
 use Rattle.zone_build.specs.Zone.{Zone, IsSet, IsValid}
 use Rattle.zone_build.proofs.ListLemmas.{AllByRecursion-made}
-use Rattle.zone_build.proofs.MakeZoneLemmas.{some_set}
+use Rattle.zone_build.proofs.ZoneOrFaultLemmas.{some_set}
 use Rattle.zone_db.specs.Bits.{IsSilent, header_of, qr_of, bit}
 use Rattle.zone_db.specs.LookUp.{IsFound, shown}
 use Rattle.zone_db.specs.Replies.{Adds, AddressesOf, Comes, Finds, Follows, IsDrafted, IsGlue, IsMessageOf}

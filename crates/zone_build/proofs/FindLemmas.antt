@@ -22,7 +22,8 @@ use Rattle.zone_build.specs.declared.index.Sought.TheVariants.{At, Below}
 use Rattle.zone_build.specs.declared.entry.Key.TheVariants.{Owner, Set}
 use Rattle.zone_build.proofs.ListLemmas.{AllByRecursion-contains, AllByRecursion-made}
 use Rattle.zone_build.proofs.OrderLemmas.{three, key_not_after, alike_equal}
-use Rattle.zone_build.proofs.IndexLemmas.{record_at, place_of, same_keys, below_both, before_or_from, equal_or_after}
+use Rattle.zone_build.proofs.IndexLemmas.{record_at, place_of, same_keys, before_or_from, equal_or_after}
+use Rattle.zone_build.proofs.IndexNamesLemmas.{below_both}
 
 -- a record stands at a place
 pub record IsPlacedAt (xs : List Record) (r : Record) (k : ℕ) : Type 0 where

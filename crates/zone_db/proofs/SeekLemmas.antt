@@ -14,7 +14,7 @@ use Rattle.dns_wire.specs.Kinds.{ns, cname, soa}
 use Rattle.dns_wire.specs.declared.record.Record.{Record}
 use Rattle.zone_build.specs.Zone.{Zone, IsIn, IsSet, IsCanonical, IsValid}
 use Rattle.zone_build.specs.Finding.{IsLeastKindAt}
-use Rattle.zone_build.proofs.IndexLemmas.{below_both}
+use Rattle.zone_build.proofs.IndexNamesLemmas.{below_both}
 use Rattle.zone_build.proofs.SomeSetLemmas.{length-wire}
 use Rattle.zone_build.specs.Plain.{owned_of, plain_of}
 use Rattle.zone_db.specs.LookUp.{IsHighestCut, HasKind, AsksFor, MeetsAlias, IsAnswered, every}
