@@ -1,1 +1,4 @@
 pub mod HoldLemmas
+pub mod PlaceLemmas
+pub mod ChangeLemmas
+pub mod LookLemmas

@@ -6,7 +6,7 @@ ghost use Rattle.std.specs.Ordering.{nat_cmp};
 ghost use Rattle.naptr_rule.specs.Rdata.{rdata};
 ghost use Rattle.dns_wire.specs.Kinds.{kind_of, naptr};
 ghost use Rattle.dns_wire.specs.Rdata.{rdata_of};
-ghost use Rattle.zone_build.specs.Zone.{IsRising};
+ghost use Rattle.zone_db.specs.Offering.{RdataRises};
 ghost use Rattle.registry.specs.Holding.{AreRules, IsPlace};
 
 use dns_wire::{Content, Record};
@@ -23,7 +23,7 @@ pub(crate) enum Place {
 /// The place of the rule in the set, by RDATA.
 pub(crate) fn place_of(set: &[Record], rule: &Naptr) -> Place
     requires rules { AreRules set.now }
-    requires rising { IsRising set.now }
+    requires rising { RdataRises set.now }
     ensures { IsPlace set.now rule.now result }
 {
     for at in 0..set.len() {
