@@ -2,3 +2,4 @@ pub mod HoldLemmas
 pub mod PlaceLemmas
 pub mod ChangeLemmas
 pub mod LookLemmas
+pub mod CommandLemmas

@@ -46,11 +46,11 @@ set_after_start start others set owner kind is other s = record {
 }
 
 -- the rules of a set
-in_set : (records set : List Record) (owner : Labels) (kind : ℕ) (one : Record) → IsSet records owner kind set → Contains set one → Contains records one
+pub in_set : (records set : List Record) (owner : Labels) (kind : ℕ) (one : Record) → IsSet records owner kind set → Contains set one → Contains records one
 in_set records set owner kind one s c =
     subst (λ l. Contains l one) (sym s.parts) (Contains-append_right s.before (set ++ s.after) one (Contains-append_left set s.after one c))
 
-to_set : (records set : List Record) (owner : Labels) (kind : ℕ) (one : Record) → IsSet records owner kind set → Contains records one
+pub to_set : (records set : List Record) (owner : Labels) (kind : ℕ) (one : Record) → IsSet records owner kind set → Contains records one
     → IsIn owner kind one → Contains set one
 to_set records set owner kind one s c i = elim (Contains-append_cases s.before (set ++ s.after) one (subst (λ l. Contains l one) s.parts c)) [
   | inl front ↦ absurd (AllByRecursion-contains (λ r. ¬ IsIn owner kind r) s.before one s.none_before front i)
@@ -138,7 +138,7 @@ has_kind zone set owner kind s = (λ t. set_has zone.records owner kind set s (s
     some t = grind (arith, nat_tests)
 
     there : HasKind zone owner kind → IsTrue (nat_lt 0 (length set))
-    there (one, c, i) = elim (cases (length set)) [ inl yes ↦ yes | inr no ↦ absurd (set_none zone.records owner kind set s no one c i) ]
+    there (one, c, i) = elim (cases (length set)) [ inl t ↦ t | inr few ↦ absurd (set_none zone.records owner kind set s few one c i) ]
       where
         cases : (n : ℕ) → IsTrue (nat_lt 0 n) ⊎ (n ≤ 0)
         cases n = grind (arith, nat_tests)

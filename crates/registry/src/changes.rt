@@ -13,7 +13,7 @@ use crate::fresh::fresh_record;
 use crate::place::{Place, place_of};
 use crate::registry::Registry;
 use dns_name::Name;
-use dns_wire::{Content, Records, kinds};
+use dns_wire::{Content, kinds};
 use enum_base::MemoryFault;
 use naptr_data::Naptr;
 
@@ -28,9 +28,7 @@ impl Registry {
         ensures err { OnErr result (self.new ≡ self.old) }
     {
         let set = self.sets.set(owner, kinds::NAPTR);
-        let at = match place_of(set, rule) {
-            Place::Taken(at) | Place::Free(at) => at,
-        };
+        let at = place_of(set, rule).at();
         let one = fresh_record(owner, set, Content::Naptr(*rule));
         let more = with_record(self.alloc, set, at, one)?;
         self.sets.put(owner, kinds::NAPTR, more)?;
@@ -65,9 +63,10 @@ impl Registry {
         ensures ok { OnOk result ((one : Record) × IsNew self.old owner.now (content.Cname target.now) one × IsWith self.old one self.new) }
         ensures err { OnErr result (self.new ≡ self.old) }
     {
-        let mut set = Records::new(self.alloc);
-        set.push(fresh_record(owner, &[], Content::Cname(*target)))?;
-        self.sets.put(owner, kinds::CNAME, set)?;
+        let set = self.sets.set(owner, kinds::CNAME);
+        let one = fresh_record(owner, set, Content::Cname(*target));
+        let more = with_record(self.alloc, set, set.len(), one)?;
+        self.sets.put(owner, kinds::CNAME, more)?;
         Ok(())
     }
 
@@ -76,6 +75,8 @@ impl Registry {
         requires { HasKind self.old owner.now cname }
         ensures { (one : Record) × IsIn owner.now cname one × IsWith self.new one self.old }
     {
+        // That an alias is a set of its own is a clause of `set`.
+        let _alias = self.sets.set(owner, kinds::CNAME);
         self.sets.take(owner, kinds::CNAME);
     }
 }
