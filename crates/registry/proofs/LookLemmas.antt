@@ -142,3 +142,13 @@ has_kind zone set owner kind s = (λ t. set_has zone.records owner kind set s (s
       where
         cases : (n : ℕ) → IsTrue (nat_lt 0 n) ⊎ (n ≤ 0)
         cases n = grind (arith, nat_tests)
+
+abbrev pub MatchPlace : Place → Type 0 → Type 0 → Type 0
+MatchPlace (place.Taken at) P Q = P
+MatchPlace (place.Free at) P Q = Q
+
+-- rules at an owner
+pub has_rule_there : (zone : Zone) (set : List Record) (owner : Labels) (rule : Naptr) (p : Place) → IsSet zone.records owner naptr set
+    → IsPlace set rule p → MatchPlace p (HasRule zone owner rule) (HasRule zone owner rule → ⊥)
+has_rule_there zone set owner rule (place.Taken at) s is = taken_has zone set owner rule at s is
+has_rule_there zone set owner rule (place.Free at) s is = free_lacks zone set owner rule at s is

@@ -64,6 +64,8 @@ impl Registry {
         ensures err { OnErr result (self.new ≡ self.old) }
     {
         let set = self.sets.set(owner, kinds::CNAME);
+        // That the target is a name is a clause of `wire`.
+        let _wire = target.wire();
         let one = fresh_record(owner, set, Content::Cname(*target));
         let more = with_record(self.alloc, set, set.len(), one)?;
         self.sets.put(owner, kinds::CNAME, more)?;
