@@ -3,7 +3,7 @@ ghost use Rattle.std.specs.Prelude.{◌≡◌, ◌≢◌, ◌↔◌, ◌≤◌, 
 ghost use Rattle.dns_name.specs.Name.{folded_labels, IsBelow};
 ghost use Rattle.naptr_data.specs.Zones.{Labels};
 ghost use Rattle.dns_wire.specs.Kinds.{naptr, soa};
-ghost use Rattle.zone_build.specs.Zone.{IsSet, weight};
+ghost use Rattle.zone_build.specs.Zone.{IsSet, IsValid, weight};
 ghost use Rattle.zone_db.specs.Offering.{RdataRises};
 ghost use Rattle.zone_db.specs.LookUp.{HasKind, IsCut};
 ghost use Rattle.registry.specs.Commands.{HasNoRoom, HasRecord, HasRule, IsOutside};
@@ -36,6 +36,7 @@ impl Registry {
         requires { kind ≢ soa }
         ensures set { IsSet self.now.records owner.now kind result.now }
         ensures held { IsHeld (folded_labels owner.now) kind result.now }
+        ensures valid { IsValid self.now }
     {
         self.sets.set(owner, kind)
     }

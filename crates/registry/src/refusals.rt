@@ -1,6 +1,8 @@
 //! Why a registry refuses a command.
-ghost use Rattle.std.specs.Prelude.{◌≡◌, ◌⊎◌, MatchOption};
-ghost use Rattle.registry.specs.Commands.{IsRefusal, Refuses, add, drop_alias, remove, set_alias};
+ghost use Rattle.std.specs.Prelude.{◌≡◌, ◌⊎◌, IfNone, MatchOption};
+ghost use Rattle.dns_wire.specs.Kinds.{cname};
+ghost use Rattle.zone_db.specs.LookUp.{HasKind};
+ghost use Rattle.registry.specs.Commands.{HasRule, IsRefusal, Refuses, add, drop_alias, remove, set_alias};
 
 ghost use Rattle.registry.specs.declared.fault.RegistryFault.{RegistryFault};
 ghost use Rattle.registry.specs.declared.fault.RegistryFault.TheVariants as RegistryFault;
@@ -40,9 +42,10 @@ impl Registry {
 
     /// Why `remove` is refused, where it is.
     pub(crate) fn remove_fault(&self, owner: &Name, rule: &Naptr) -> Option<RegistryFault>
-        ensures { MatchOption result
+        ensures fault { MatchOption result
             ((f : RegistryFault) → ¬ Refuses (remove owner.now rule.now) self.now f)
             (IsRefusal (remove owner.now rule.now) self.now) }
+        ensures there { IfNone result (HasRule self.now owner.now rule.now) }
     {
         if self.is_outside(owner) {
             Some(RegistryFault::OutsideZone)
@@ -72,9 +75,10 @@ impl Registry {
 
     /// Why `drop_alias` is refused, where it is.
     pub(crate) fn drop_alias_fault(&self, owner: &Name) -> Option<RegistryFault>
-        ensures { MatchOption result
+        ensures fault { MatchOption result
             ((f : RegistryFault) → ¬ Refuses (drop_alias owner.now) self.now f)
             (IsRefusal (drop_alias owner.now) self.now) }
+        ensures there { IfNone result (HasKind self.now owner.now cname) }
     {
         if self.is_outside(owner) {
             Some(RegistryFault::OutsideZone)

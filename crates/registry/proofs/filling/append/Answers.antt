@@ -1,0 +1,7 @@
+use Rattle.registry.proofs.filling.append.Goals as goal
+
+pub put-requires : goal.put-requires
+put-requires c = ?
+
+pub returns : goal.returns
+returns c = ?
