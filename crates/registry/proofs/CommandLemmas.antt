@@ -50,7 +50,7 @@ cut_after set front back one at is size =
     (length-append front (one ∷ []) ∙ ap (λ n. n + 1) size)
 
 -- RDATA that rises, with a record more or less
-rises_with : (front : List Record) (one : Record) (back : List Record) → RdataRises (front ++ back)
+pub rises_with : (front : List Record) (one : Record) (back : List Record) → RdataRises (front ++ back)
     → AllByRecursion (λ x. slice_cmp nat_cmp (rdata_of x.content) (rdata_of one.content) ≡ Less) front
     → AllByRecursion (λ y. slice_cmp nat_cmp (rdata_of one.content) (rdata_of y.content) ≡ Less) back
     → RdataRises (front ++ one ∷ back)

@@ -3,3 +3,5 @@ pub mod PlaceLemmas
 pub mod ChangeLemmas
 pub mod LookLemmas
 pub mod CommandLemmas
+pub mod FillLemmas
+pub mod RefusalLemmas

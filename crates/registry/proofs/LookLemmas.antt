@@ -1,7 +1,12 @@
 -- What a registry holds at names.
 use Rattle.std.proofs.Common.{◌≡◌, ◌≢◌, ◌⊎◌, inl, inr, ℕ, ◌+◌, ◌<◌, ◌≤◌, Bool, true, false, List, [], ◌∷◌, ◌++◌, length, Option, Some, None, refl, sym, ap, subst, ◌∙◌, arith}
 use Rattle.std.specs.Prelude.{Contains, IsTrue, ◌↔◌, nat_lt}
+use Rattle.std.proofs.Common.{take, get_or}
 use Rattle.std.proofs.lemmas.Bool.Decides.{nat_tests}
+use Rattle.std.proofs.lemmas.List.{take_all, take_more}
+use Rattle.dns_name.proofs.NameLemmas.{AllByRecursion-append}
+use Rattle.dns_wire.specs.declared.content.Content.{Content}
+use Rattle.dns_wire.specs.declared.content.Content.TheVariants as content
 use Rattle.std.specs.List.{AllByRecursion}
 use Rattle.std.specs.Cmp.{tied_itself}
 use Rattle.std.specs.Cmp.Lexicographic.{nat_list_cmp_total, slice_cmp}
@@ -16,7 +21,7 @@ use Rattle.naptr_data.proofs.DecideLemmas.{below_parts}
 use Rattle.naptr_data.proofs.CutLemmas.{Contains-after, Contains-head, Contains-middle, Contains-none, head_or_after}
 use Rattle.naptr_rule.specs.Rdata.{rdata}
 use Rattle.naptr_rule.specs.declared.rule.Naptr.{Naptr}
-use Rattle.dns_wire.specs.Kinds.{kind_of, naptr, ns, soa}
+use Rattle.dns_wire.specs.Kinds.{is_whole, kind_of, naptr, ns, soa}
 use Rattle.dns_wire.specs.Rdata.{rdata_of}
 use Rattle.dns_wire.specs.declared.record.Record.{Record}
 use Rattle.zone_build.specs.Zone.{Zone, IsIn, IsSet, IsValid, weight}
@@ -26,7 +31,7 @@ use Rattle.zone_build.proofs.RdataLemmas.{kind_is}
 use Rattle.zone_build.proofs.SizeLemmas.{one_set}
 use Rattle.zone_db.specs.LookUp.{HasKind, IsCut}
 use Rattle.zone_db.proofs.SeekLemmas.{set_has, set_none}
-use Rattle.registry.specs.Commands.{HasNoRoom, HasRule, IsRuleAt}
+use Rattle.registry.specs.Commands.{HasNoRoom, HasRecord, HasRule, IsRuleAt}
 use Rattle.registry.specs.Holding.{AreRules, IsPlace}
 use Rattle.registry.specs.declared.place.Place.{Place}
 use Rattle.registry.specs.declared.place.Place.TheVariants as place
@@ -152,3 +157,47 @@ pub has_rule_there : (zone : Zone) (set : List Record) (owner : Labels) (rule : 
     → IsPlace set rule p → MatchPlace p (HasRule zone owner rule) (HasRule zone owner rule → ⊥)
 has_rule_there zone set owner rule (place.Taken at) s is = taken_has zone set owner rule at s is
 has_rule_there zone set owner rule (place.Free at) s is = free_lacks zone set owner rule at s is
+
+-- any record at an owner
+pub kind_record : (zone : Zone) (owner : Labels) (kind : ℕ) → HasKind zone owner kind → HasRecord zone owner
+kind_record zone owner kind (one, c, i) = (one, c, i.0)
+
+pub start_record : (apex : Labels) (start : Record) (others : List Record) (owner : Labels) → AreSame start.owner owner
+    → HasRecord (zone_of apex start others) owner
+start_record apex start others owner same = (start, Contains-head start others, same)
+
+pub all_more : (P : ℕ → Type 0) (kinds : List ℕ) (i d : ℕ) → i < length kinds → AllByRecursion P (take i kinds) → P (get_or kinds i d)
+    → AllByRecursion P (take (i + 1) kinds)
+all_more P kinds i d within all here =
+    subst (AllByRecursion P) (sym (take_more kinds i d within)) (AllByRecursion-append P (take i kinds) (get_or kinds i d ∷ []) all (here, tt))
+
+abbrev pub other_kinds : List ℕ
+other_kinds = 1 ∷ 2 ∷ 5 ∷ 12 ∷ 15 ∷ 16 ∷ 28 ∷ 33 ∷ 35 ∷ []
+
+of_ten : (P : ℕ → Type 0) (c : Content) → IsTrue (is_whole c) → kind_of c ≢ soa → AllByRecursion P other_kinds → P (kind_of c)
+of_ten P (content.A address) whole other all = all.0
+of_ten P (content.Ns server) whole other all = all.1.0
+of_ten P (content.Cname target) whole other all = all.1.1.0
+of_ten P (content.Soa fields) whole other all = absurd (other refl)
+of_ten P (content.Ptr name) whole other all = all.1.1.1.0
+of_ten P (content.Mx preference exchange) whole other all = all.1.1.1.1.0
+of_ten P (content.Txt texts) whole other all = all.1.1.1.1.1.0
+of_ten P (content.Aaaa address) whole other all = all.1.1.1.1.1.1.0
+of_ten P (content.Srv priority weight port target) whole other all = all.1.1.1.1.1.1.1.0
+of_ten P (content.Naptr rule) whole other all = all.1.1.1.1.1.1.1.1.0
+of_ten P (content.Opt options) whole other all = absurd (cc whole)
+of_ten P (content.Raw bytes) whole other all = absurd (cc whole)
+
+pub no_record : (apex : Labels) (start : Record) (others : List Record) (owner : Labels) → IsValid (zone_of apex start others)
+    → (AreSame start.owner owner → ⊥) → (i : ℕ) → length other_kinds ≤ i
+    → AllByRecursion (λ kind. ¬ HasKind (zone_of apex start others) owner kind) (take i other_kinds)
+    → HasRecord (zone_of apex start others) owner → ⊥
+no_record apex start others owner v apart i end none (one, c, same) = elim (head_or_after start others one c) [
+  | inl here ↦ apart (subst (λ (r : Record). AreSame r.owner owner) here same)
+  | inr later ↦
+      let kinds : one.kind ≡ kind_of one.content = kind_is one.content one.kind one.class one.belongs (v.plain one c).whole in
+      let other : kind_of one.content ≢ soa = λ e. AllByRecursion-contains (λ (r : Record). r.kind ≢ soa) others one v.order.1 later (kinds ∙ e) in
+      of_ten (λ kind. ¬ HasKind (zone_of apex start others) owner kind) one.content (v.plain one c).whole other
+      (subst (AllByRecursion (λ kind. ¬ HasKind (zone_of apex start others) owner kind)) (take_all i other_kinds end) none)
+      (one, c, (same, kinds))
+]
