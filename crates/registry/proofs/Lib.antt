@@ -5,3 +5,4 @@ pub mod LookLemmas
 pub mod CommandLemmas
 pub mod FillLemmas
 pub mod RefusalLemmas
+pub mod ZoneLemmas
