@@ -65,6 +65,8 @@ module _ (set : List Record) (rule : Naptr) (at : ℕ) (one : Record) (within : 
       → AllByRecursion (Earlier rule) (take (at + 1) set)
   place_greater greater before =
       subst (AllByRecursion (Earlier rule)) (ap (λ y. take at set ++ y ∷ []) is ∙ sym (take_more set at one within))
-      (AllByRecursion-append (Earlier rule) (take at set) (one ∷ []) before
-      (nat_list_cmp_total.antisymm (rdata_of one.content) (rdata rule) ∙ ap ordering_reverse
-      (subst (λ (x : Record). slice_cmp nat_cmp (rdata rule) (rdata_of x.content) ≡ Greater) (sym is) greater), tt))
+      (AllByRecursion-append (Earlier rule) (take at set) (one ∷ []) before (
+        nat_list_cmp_total.antisymm (rdata_of one.content) (rdata rule) ∙ ap ordering_reverse
+            (subst (λ (x : Record). slice_cmp nat_cmp (rdata rule) (rdata_of x.content) ≡ Greater) (sym is) greater),
+        tt,
+      ))

@@ -20,48 +20,58 @@ use Rattle.registry.proofs.FillLemmas.{earlier_at}
 first_itself : (records : List Record) → IsCanonical records → (kept : Record) → Contains records kept → IsFirstRepeat records kept kept
 first_itself [] c kept h = absurd c
 first_itself (start ∷ rest) c kept h = elim (head_or_after start rest kept h) [
-  | inl here ↦ (0, record {
-    before = [];
-    after = rest;
-    parts = ap (λ x. x ∷ rest) (sym here);
-    at = refl;
-    here = ((refl, refl), refl);
-    first = tt;
-  })
+  | inl here ↦ (
+    0,
+    record {
+      before = [];
+      after = rest;
+      parts = ap (λ x. x ∷ rest) (sym here);
+      at = refl;
+      here = ((refl, refl), refl);
+      first = tt;
+    },
+  )
   | inr there ↦ later there
 ]
   where
     later : Contains rest kept → IsFirstRepeat (start ∷ rest) kept kept
-    later (k, l, e) = (k + 1, record {
-      before = start ∷ take k rest;
-      after = drop (k + 1) rest;
-      parts = ap (λ l. start ∷ l) (sym (take-append-drop k rest)
-          ∙ ap (λ l. take k rest ++ l) (drop_more rest k kept l ∙ ap (λ x. x ∷ drop (k + 1) rest) e));
-      at = omega (arith, length-take-le k rest (omega (arith, l)));
-      here = ((refl, refl), refl);
-      first = (
-        (λ same. AllByRecursion-contains (λ (r : Record). r.kind ≢ soa) rest kept c.1 (k, l, e) (same.0.1 ∙ c.0)),
-        AllByRecursion-made (λ earlier. ¬ AreRepeats kept earlier) (take k rest) (λ y d same.
-            let less : order_of y kept ≡ Less = earlier_at rest k kept c.2 l (sym e) y d in
-            let equal : order_of y kept ≡ Equal = repeats_equal y kept ((sym same.0.0, sym same.0.1), sym same.1) in
-            let no : Less ≡ Equal = sym less ∙ equal in
-            cc no),
-      );
-    })
+    later (k, l, e) = (
+      k + 1,
+      record {
+        before = start ∷ take k rest;
+        after = drop (k + 1) rest;
+        parts = ap (λ l. start ∷ l) (sym (take-append-drop k rest)
+            ∙ ap (λ l. take k rest ++ l) (drop_more rest k kept l ∙ ap (λ x. x ∷ drop (k + 1) rest) e));
+        at = omega (arith, length-take-le k rest (omega (arith, l)));
+        here = ((refl, refl), refl);
+        first = (
+          (λ same. AllByRecursion-contains (λ (r : Record). r.kind ≢ soa) rest kept c.1 (k, l, e) (same.0.1 ∙ c.0)),
+          AllByRecursion-made (λ earlier. ¬ AreRepeats kept earlier) (take k rest) (λ y d same.
+              let less : order_of y kept ≡ Less = earlier_at rest k kept c.2 l (sym e) y d in
+              let equal : order_of y kept ≡ Equal = repeats_equal y kept ((sym same.0.0, sym same.0.1), sym same.1) in
+              let no : Less ≡ Equal = sym less ∙ equal in
+              cc no),
+        );
+      },
+    )
 
 pub valid_is_built : (zone : Zone) → IsValid zone → IsBuilt zone.records zone
 valid_is_built zone v = record {
   apex = λ one c k. sym (v.start one c k) ∙ sym (v.folded one c);
-  kept = λ kept c. (kept, first_itself zone.records v.order kept c, record {
-    owner = sym (v.folded kept c);
-    kind = refl;
-    class = refl;
-    content = refl;
-    ttl = record {
-      some = (kept, c, (refl, refl), refl);
-      least = λ other d same. let e = v.ttl kept other c d same in omega (arith, e);
-    };
-  });
+  kept = λ kept c. (
+    kept,
+    first_itself zone.records v.order kept c,
+    record {
+      owner = sym (v.folded kept c);
+      kind = refl;
+      class = refl;
+      content = refl;
+      ttl = record {
+        some = (kept, c, (refl, refl), refl);
+        least = λ other d same. let e = v.ttl kept other c d same in omega (arith, e);
+      };
+    },
+  );
   all = λ one c. (one, c, ((refl, refl), refl));
   order = v.order;
 }

@@ -3,7 +3,6 @@ ghost use Rattle.std.specs.Prelude.{◌≡◌, ◌⊎◌, IfNone, MatchOption};
 ghost use Rattle.dns_wire.specs.Kinds.{cname};
 ghost use Rattle.zone_db.specs.LookUp.{HasKind};
 ghost use Rattle.registry.specs.Commands.{HasRule, IsRefusal, Refuses, add, drop_alias, remove, set_alias};
-
 ghost use Rattle.registry.specs.declared.fault.RegistryFault.{RegistryFault};
 ghost use Rattle.registry.specs.declared.fault.RegistryFault.TheVariants as RegistryFault;
 
@@ -17,7 +16,12 @@ use service_field::DddsApp;
 
 impl Registry {
     /// Why `add` is refused, where it is.
-    pub(crate) fn add_fault<P: DddsApp>(&self, app: &P, owner: &Name, rule: &Naptr) -> Option<RegistryFault>
+    pub(crate) fn add_fault<P: DddsApp>(
+        &self,
+        app: &P,
+        owner: &Name,
+        rule: &Naptr,
+    ) -> Option<RegistryFault>
         ensures { MatchOption result
             ((f : RegistryFault) → ¬ Refuses (add (P.meaning app.now) owner.now rule.now) self.now f)
             (λ f. (f ≡ RegistryFault.Memory) ⊎ IsRefusal (add (P.meaning app.now) owner.now rule.now) self.now f) }
@@ -28,16 +32,18 @@ impl Registry {
             Ok(()) => {}
         }
         if self.is_outside(owner) {
-            Some(RegistryFault::OutsideZone)
-        } else if self.has_rule(owner, rule) {
-            Some(RegistryFault::Duplicate)
-        } else if self.has_kind(owner, kinds::CNAME) {
-            Some(RegistryFault::AliasClash)
-        } else if !self.has_room(owner, rule) {
-            Some(RegistryFault::SetTooLarge)
-        } else {
-            None
+            return Some(RegistryFault::OutsideZone);
         }
+        if self.has_rule(owner, rule) {
+            return Some(RegistryFault::Duplicate);
+        }
+        if self.has_kind(owner, kinds::CNAME) {
+            return Some(RegistryFault::AliasClash);
+        }
+        if !self.has_room(owner, rule) {
+            return Some(RegistryFault::SetTooLarge);
+        }
+        None
     }
 
     /// Why `remove` is refused, where it is.

@@ -5,7 +5,6 @@ ghost use Rattle.dns_wire.specs.Kinds.{naptr};
 ghost use Rattle.zone_db.specs.LookUp.{AreRulesOf};
 ghost use Rattle.zone_build.specs.Zone.{IsSet, IsValid};
 ghost use Rattle.registry.specs.Commands.{IsDone, IsRefusal, add, drop_alias, remove, set_alias};
-
 ghost use Rattle.registry.specs.declared.fault.RegistryFault.TheVariants as RegistryFault;
 ghost use Rattle.dns_wire.specs.declared.record.Record.{Record};
 
@@ -65,7 +64,12 @@ impl Registry {
     /// # Errors
     /// The first that holds: the rule is not well formed for the application; the owner is outside the zone; the rule is
     /// there; an alias is there; the rules there would be too large a set; out of memory. The registry is as it was then.
-    pub fn add<P: DddsApp>(&mut self, app: &P, owner: &Name, rule: &Naptr) -> Result<(), RegistryFault>
+    pub fn add<P: DddsApp>(
+        &mut self,
+        app: &P,
+        owner: &Name,
+        rule: &Naptr,
+    ) -> Result<(), RegistryFault>
         ensures ok { OnOk result (IsDone (add (P.meaning app.now) owner.now rule.now) self.old self.new) }
         ensures err { IfErr result (λ fault. (fault ≡ RegistryFault.Memory)
             ⊎ IsRefusal (add (P.meaning app.now) owner.now rule.now) self.old fault) }

@@ -12,4 +12,3 @@ loop-one-preserved c =
 
 pub returns : goal.returns
 returns c = (has_all c.args.set.now c.loop-one.one-index c.loop-one.rules c.loop-one-test.false c.loop-one.invariant).are
-

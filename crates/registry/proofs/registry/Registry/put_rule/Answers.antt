@@ -35,12 +35,12 @@ put-requires c =
     c.set-set.ensures.set c.set-set.ensures.held c.place_of.result c.at-at.result
     c.place_of.ensures c.at-at.ensures (subst (λ z. ¬ HasRule z c.args.owner.now c.args.rule.now) (sym c.self.view_is) c.requires.new))
     (record {
-        at = c.fresh_record-one.ensures.owner;
-        kind = c.fresh_record-one.ensures.kind;
-        class = c.fresh_record-one.ensures.class;
-        content = c.fresh_record-one.ensures.content;
-        ttl = c.fresh_record-one.ensures.ttl;
-      })
+      at = c.fresh_record-one.ensures.owner;
+      kind = c.fresh_record-one.ensures.kind;
+      class = c.fresh_record-one.ensures.class;
+      content = c.fresh_record-one.ensures.content;
+      ttl = c.fresh_record-one.ensures.ttl;
+    })
     c.in_ok-more.ensures
 
 pub invariant_of-self-2 : goal.invariant_of-self-2
@@ -51,12 +51,12 @@ invariant_of-self-2 c =
     c.set-set.ensures.set c.set-set.ensures.held c.place_of.result c.at-at.result
     c.place_of.ensures c.at-at.ensures (subst (λ z. ¬ HasRule z c.args.owner.now c.args.rule.now) (sym c.self.view_is) c.requires.new))
     (record {
-        at = c.fresh_record-one.ensures.owner;
-        kind = c.fresh_record-one.ensures.kind;
-        class = c.fresh_record-one.ensures.class;
-        content = c.fresh_record-one.ensures.content;
-        ttl = c.fresh_record-one.ensures.ttl;
-      })
+      at = c.fresh_record-one.ensures.owner;
+      kind = c.fresh_record-one.ensures.kind;
+      class = c.fresh_record-one.ensures.class;
+      content = c.fresh_record-one.ensures.content;
+      ttl = c.fresh_record-one.ensures.ttl;
+    })
     c.in_ok-more.ensures
     (c.in_ok-put.ensures.put c.set-set.result.now c.set-set.ensures.set) c.in_ok-put.ensures.rising
     (subst (λ (z : Zone). IsBelow c.args.owner.now z.apex) (sym c.self.view_is) c.requires.inside)
@@ -73,12 +73,12 @@ returns-clause-ok c =
     c.set-set.ensures.set c.set-set.ensures.held c.place_of.result c.at-at.result
     c.place_of.ensures c.at-at.ensures (subst (λ z. ¬ HasRule z c.args.owner.now c.args.rule.now) (sym c.self.view_is) c.requires.new))
     (record {
-        at = c.fresh_record-one.ensures.owner;
-        kind = c.fresh_record-one.ensures.kind;
-        class = c.fresh_record-one.ensures.class;
-        content = c.fresh_record-one.ensures.content;
-        ttl = c.fresh_record-one.ensures.ttl;
-      })
+      at = c.fresh_record-one.ensures.owner;
+      kind = c.fresh_record-one.ensures.kind;
+      class = c.fresh_record-one.ensures.class;
+      content = c.fresh_record-one.ensures.content;
+      ttl = c.fresh_record-one.ensures.ttl;
+    })
     c.in_ok-more.ensures
     (c.in_ok-put.ensures.put c.set-set.result.now c.set-set.ensures.set) c.in_ok-put.ensures.rising
     (subst (λ (z : Zone). IsBelow c.args.owner.now z.apex) (sym c.self.view_is) c.requires.inside)
