@@ -6,3 +6,4 @@ pub mod CommandLemmas
 pub mod FillLemmas
 pub mod RefusalLemmas
 pub mod ZoneLemmas
+pub mod LawLemmas

@@ -76,7 +76,7 @@ valid_is_built zone v = record {
   order = v.order;
 }
 
-same_zone : (apex : Labels) (records : List Record) (zone : Zone) → apex ≡ zone.apex → records ≡ zone.records
+pub same_zone : (apex : Labels) (records : List Record) (zone : Zone) → apex ≡ zone.apex → records ≡ zone.records
     → ◌≡◌ {A = Zone} (record { apex = apex; records = records }) zone
 same_zone apex records zone e f =
     ap (with_apex records) e ∙ ap (with_records zone.apex) f

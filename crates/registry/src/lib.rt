@@ -6,6 +6,7 @@ mod copies;
 mod fault;
 mod filling;
 mod fresh;
+mod laws;
 mod listing;
 mod look;
 mod place;
@@ -15,4 +16,5 @@ mod set_key;
 mod sets;
 
 pub use fault::RegistryFault;
+pub use laws::{one_change, one_refusal};
 pub use registry::Registry;

@@ -1,15 +1,17 @@
 //! Registries.
-ghost use Rattle.std.specs.Prelude.{◌≡◌, ◌⊎◌, List, IfOk, IfErr, OnErr, OnOk};
+ghost use Rattle.std.specs.Prelude.{◌≡◌, ◌⊎◌, Err, List, IfOk, IfErr, OnErr, OnOk};
 ghost use Rattle.naptr_data.specs.Zones.{Labels};
 ghost use Rattle.dns_wire.specs.Kinds.{naptr};
 ghost use Rattle.zone_db.specs.LookUp.{AreRulesOf};
 ghost use Rattle.zone_build.specs.Zone.{IsSet, IsValid};
 ghost use Rattle.registry.specs.Commands.{IsDone, IsRefusal, add, drop_alias, remove, set_alias};
+ghost use Rattle.registry.specs.declared.fault.RegistryFault.{RegistryFault};
 ghost use Rattle.registry.specs.declared.fault.RegistryFault.TheVariants as RegistryFault;
 ghost use Rattle.dns_wire.specs.declared.record.Record.{Record};
 
 use crate::fault::RegistryFault;
 use crate::filling::filled;
+use crate::laws::one_refusal;
 use crate::listing::rules_in;
 use crate::sets::Sets;
 use dns_name::Name;
@@ -74,7 +76,10 @@ impl Registry {
         ensures err { IfErr result (λ fault. (fault ≡ RegistryFault.Memory)
             ⊎ IsRefusal (add (P.meaning app.now) owner.now rule.now) self.old fault) }
         ensures same { OnErr result (self.new ≡ self.old) }
+        ensures refuses { (fault : RegistryFault) → IsRefusal (add (P.meaning app.now) owner.now rule.now) self.old fault →
+            (result ≡ Err fault) ⊎ (result ≡ Err RegistryFault.Memory) }
     {
+        one_refusal();
         if let Some(fault) = self.add_fault(app, owner, rule) {
             return Err(fault);
         }
@@ -92,7 +97,10 @@ impl Registry {
         ensures err { IfErr result (λ fault. (fault ≡ RegistryFault.Memory)
             ⊎ IsRefusal (remove owner.now rule.now) self.old fault) }
         ensures same { OnErr result (self.new ≡ self.old) }
+        ensures refuses { (fault : RegistryFault) → IsRefusal (remove owner.now rule.now) self.old fault →
+            (result ≡ Err fault) ⊎ (result ≡ Err RegistryFault.Memory) }
     {
+        one_refusal();
         if let Some(fault) = self.remove_fault(owner, rule) {
             return Err(fault);
         }
@@ -110,7 +118,10 @@ impl Registry {
         ensures err { IfErr result (λ fault. (fault ≡ RegistryFault.Memory)
             ⊎ IsRefusal (set_alias owner.now target.now) self.old fault) }
         ensures same { OnErr result (self.new ≡ self.old) }
+        ensures refuses { (fault : RegistryFault) → IsRefusal (set_alias owner.now target.now) self.old fault →
+            (result ≡ Err fault) ⊎ (result ≡ Err RegistryFault.Memory) }
     {
+        one_refusal();
         if let Some(fault) = self.set_alias_fault(owner, target) {
             return Err(fault);
         }
@@ -126,7 +137,9 @@ impl Registry {
         ensures ok { OnOk result (IsDone (drop_alias owner.now) self.old self.new) }
         ensures err { IfErr result (IsRefusal (drop_alias owner.now) self.old) }
         ensures same { OnErr result (self.new ≡ self.old) }
+        ensures refuses { (fault : RegistryFault) → IsRefusal (drop_alias owner.now) self.old fault → result ≡ Err fault }
     {
+        one_refusal();
         if let Some(fault) = self.drop_alias_fault(owner) {
             return Err(fault);
         }
