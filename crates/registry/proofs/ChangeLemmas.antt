@@ -1,12 +1,12 @@
 -- A valid zone with a record more or less.
-use Rattle.std.proofs.Common.{◌≡◌, ◌≢◌, ◌⊎◌, inl, inr, ℕ, ◌+◌, ◌<◌, ◌≤◌, List, [], ◌∷◌, ◌++◌, length, refl, sym, ap, subst, ◌∙◌, arith, append_assoc, append-nil}
-use Rattle.std.specs.Prelude.{Contains, IsTrue}
+use Rattle.std.proofs.Common.{◌≡◌, ◌≢◌, ◌⊎◌, inl, inr, ℕ, ◌+◌, ◌≤◌, List, [], ◌∷◌, ◌++◌, length, refl, sym, ap, subst, ◌∙◌, arith, append_assoc, append-nil}
+use Rattle.std.specs.Prelude.{Contains}
 use Rattle.std.specs.List.{AllByRecursion}
 use Rattle.std.proofs.lemmas.List.Elements.{Contains-append_cases, Contains-append_left, Contains-append_right}
 use Rattle.std.proofs.lemmas.List.Sums.{sum_by-append}
 use Rattle.dns_name.specs.Name.{AreSame, IsBelow, folded_labels}
 use Rattle.naptr_data.specs.Zones.{Labels}
-use Rattle.naptr_data.proofs.CutLemmas.{Contains-after, Contains-head, Contains-middle, head_or_after}
+use Rattle.naptr_data.proofs.CutLemmas.{Contains-after, head_or_after}
 use Rattle.naptr_data.proofs.DecideLemmas.{Either, numbers, same_or_not}
 use Rattle.dns_wire.specs.Kinds.{cname, ns, soa}
 use Rattle.dns_wire.specs.Rdata.{rdata_of}

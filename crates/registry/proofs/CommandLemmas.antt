@@ -5,12 +5,10 @@ use Rattle.std.specs.List.{AllByRecursion}
 use Rattle.std.specs.Cmp.{tied_itself}
 use Rattle.std.specs.Cmp.Lexicographic.{nat_list_cmp_total, slice_cmp}
 use Rattle.std.specs.Ordering.{nat_cmp}
-use Rattle.std.specs.declared.cmp.Ordering.{Ordering}
 use Rattle.std.specs.declared.cmp.Ordering.TheVariants.{Less, Equal}
 use Rattle.std.proofs.Math.Seq.{take-append_seam, drop-append_seam}
 use Rattle.std.proofs.lemmas.List.Elements.{Contains-append_cases, Contains-append_left, Contains-append_right}
 use Rattle.dns_name.specs.Name.{AreSame, IsBelow, folded_labels}
-use Rattle.dns_name.proofs.NameLemmas.{AllByRecursion-append}
 use Rattle.naptr_data.specs.Zones.{Labels}
 use Rattle.naptr_data.proofs.BelowLemmas.{below_same_name}
 use Rattle.naptr_data.proofs.CutLemmas.{Contains-after, Contains-head, Contains-middle, Contains-none, head_or_after}
@@ -22,7 +20,7 @@ use Rattle.dns_wire.specs.Rdata.{rdata_of}
 use Rattle.dns_wire.specs.declared.content.Content.{Content}
 use Rattle.dns_wire.specs.declared.content.Content.TheVariants as content
 use Rattle.dns_wire.specs.declared.record.Record.{Record}
-use Rattle.zone_build.specs.Zone.{Zone, AreOneSet, IsIn, IsPlain, IsRising, IsSet, IsValid, weight}
+use Rattle.zone_build.specs.Zone.{Zone, AreOneSet, IsIn, IsRising, IsSet, IsValid, weight}
 use Rattle.zone_build.proofs.ListLemmas.{AllByRecursion-contains, AllByRecursion-made}
 use Rattle.zone_build.proofs.SizeLemmas.{one_set, set_same_name}
 use Rattle.zone_db.specs.LookUp.{HasKind}
@@ -33,7 +31,6 @@ use Rattle.registry.specs.declared.place.Place.{Place}
 use Rattle.registry.specs.declared.place.Place.TheVariants as place
 use Rattle.registry.proofs.ChangeLemmas.{IsFit, canonical_without, put_with, put_without, valid_with, valid_without, zone_of}
 use Rattle.registry.proofs.LookLemmas.{free_lacks, in_set, set_after_start, taken_has, to_set}
-use Rattle.registry.proofs.PlaceLemmas.{Earlier, Later}
 
 -- a list cut at a length
 pub cut_front : (set front back : List Record) (at : ℕ) → set ≡ front ++ back → length front ≡ at → take at set ≡ front

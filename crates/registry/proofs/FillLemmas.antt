@@ -1,7 +1,7 @@
 -- Sets that are filled with records that rise.
-use Rattle.std.proofs.Common.{◌≡◌, ◌⊎◌, inl, inr, ℕ, ◌+◌, ◌<◌, ◌≤◌, List, [], ◌∷◌, ◌++◌, length, take, drop, get_or, refl, sym, ap, subst, ◌∙◌, arith, append_assoc, append-nil}
+use Rattle.std.proofs.Common.{◌≡◌, inl, inr, ℕ, ◌+◌, ◌<◌, List, [], ◌∷◌, ◌++◌, length, take, drop, get_or, refl, sym, ap, subst, ◌∙◌, arith, append_assoc, append-nil}
 use Rattle.std.specs.Prelude.{Contains}
-use Rattle.std.specs.List.{AllByRecursion, flat_map}
+use Rattle.std.specs.List.{flat_map}
 use Rattle.std.specs.Map.{values_of}
 use Rattle.std.specs.Cmp.Lexicographic.{slice_cmp}
 use Rattle.std.specs.Ordering.{nat_cmp, ordering_reverse}
@@ -11,17 +11,15 @@ use Rattle.std.proofs.lemmas.List.{drop_all, drop_more, take-append-drop}
 use Rattle.std.proofs.lemmas.List.Elements.{Contains-append_right}
 use Rattle.dns_name.specs.Name.{folded_labels}
 use Rattle.dns_name.proofs.NameLemmas.{AllByRecursion-append}
-use Rattle.naptr_data.specs.Zones.{Labels}
-use Rattle.naptr_data.proofs.CutLemmas.{Contains-after, Contains-head, Contains-none, head_or_after}
+use Rattle.naptr_data.proofs.CutLemmas.{Contains-head, Contains-none, head_or_after}
 use Rattle.dns_wire.specs.Rdata.{rdata_of}
 use Rattle.dns_wire.specs.declared.record.Record.{Record}
-use Rattle.zone_build.specs.Zone.{Zone, IsIn, IsRising, IsSet, order_of}
+use Rattle.zone_build.specs.Zone.{IsIn, IsRising, IsSet, order_of}
 use Rattle.zone_build.proofs.ListLemmas.{AllByRecursion-contains, AllByRecursion-made}
 use Rattle.zone_build.proofs.OrderLemmas.{order_of-total}
 use Rattle.zone_db.specs.Offering.{RdataRises}
 use Rattle.registry.specs.Holding.{IsHeld, IsOf, IsPut, records_in}
 use Rattle.registry.specs.declared.set_key.SetKey.{SetKey}
-use Rattle.registry.proofs.ChangeLemmas.{zone_of}
 use Rattle.registry.proofs.CommandLemmas.{rises_with}
 use Rattle.registry.proofs.HoldLemmas.{order_in_set}
 use Rattle.registry.proofs.LookLemmas.{in_set}

@@ -1,24 +1,23 @@
 -- A command has one first refusal at most, and makes one zone at most.
-use Rattle.std.proofs.Common.{◌≡◌, ◌≢◌, ◌⊎◌, inl, inr, ℕ, ◌<◌, List, [], ◌∷◌, ◌++◌, length, refl, sym, ap, subst, ◌∙◌, arith}
+use Rattle.std.proofs.Common.{◌≡◌, ◌≢◌, ◌⊎◌, inl, inr, ℕ, ◌<◌, List, [], ◌∷◌, ◌++◌, refl, sym, ap, subst, ◌∙◌, arith}
 use Rattle.std.specs.Prelude.{Contains}
 use Rattle.std.specs.declared.cmp.Ordering.TheVariants.{Less, Equal}
-use Rattle.dns_name.specs.Name.{AreSame, folded_labels}
+use Rattle.dns_name.specs.Name.{folded_labels}
 use Rattle.naptr_data.specs.Zones.{Labels}
 use Rattle.naptr_data.proofs.CutLemmas.{Contains-head, Contains-middle, Contains-none, IsEarlier, head_or_after, two_cuts}
 use Rattle.naptr_data.proofs.FoldLemmas.{same_folded}
-use Rattle.dns_wire.specs.Kinds.{cname, kind_of, naptr, soa}
+use Rattle.dns_wire.specs.Kinds.{kind_of, soa}
 use Rattle.dns_wire.specs.declared.content.Content.{Content}
 use Rattle.dns_wire.specs.declared.content.Content.TheVariants as content
 use Rattle.dns_wire.specs.declared.record.Record.{Record}
 use Rattle.zone_build.specs.Zone.{Zone, AreOneSet, AreRepeats, IsCanonical, IsIn, IsSet, IsValid, order_of}
-use Rattle.zone_build.proofs.ListLemmas.{AllByRecursion-contains}
 use Rattle.zone_build.proofs.MakeZoneLemmas.{some_set}
 use Rattle.zone_build.proofs.OneZoneLemmas.{canonical_same, same_fields}
 use Rattle.zone_build.proofs.OrderLemmas.{repeats_equal}
 use Rattle.zone_db.proofs.SeekLemmas.{set_none}
 use Rattle.rule_check.specs.WellFormed.{OneRuleFault}
 use Rattle.rule_check.specs.declared.fault.RuleFault.{RuleFault}
-use Rattle.registry.specs.Commands.{Changes, Command, IsDone, IsNew, IsRefusal, IsWith, Refuses, add, drop_alias, number, remove, set_alias}
+use Rattle.registry.specs.Commands.{Changes, Command, IsNew, IsWith, Refuses, add, drop_alias, number, remove, set_alias}
 use Rattle.registry.specs.Laws.{CommandsHaveOneRefusal, CommandsMakeOneZone}
 use Rattle.registry.specs.declared.fault.RegistryFault.{RegistryFault}
 use Rattle.registry.specs.declared.fault.RegistryFault.TheVariants as fault

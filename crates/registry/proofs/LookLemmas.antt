@@ -1,5 +1,5 @@
 -- What a registry holds at names.
-use Rattle.std.proofs.Common.{◌≡◌, ◌≢◌, ◌⊎◌, inl, inr, ℕ, ◌+◌, ◌<◌, ◌≤◌, Bool, true, false, List, [], ◌∷◌, ◌++◌, length, Option, Some, None, refl, sym, ap, subst, ◌∙◌, arith}
+use Rattle.std.proofs.Common.{◌≡◌, ◌≢◌, ◌⊎◌, inl, inr, ℕ, ◌+◌, ◌<◌, ◌≤◌, List, [], ◌∷◌, ◌++◌, length, Some, refl, sym, ap, subst, ◌∙◌, arith}
 use Rattle.std.specs.Prelude.{Contains, IsTrue, ◌↔◌, nat_lt}
 use Rattle.std.proofs.Common.{take, get_or}
 use Rattle.std.proofs.lemmas.Bool.Decides.{nat_tests}
@@ -14,11 +14,11 @@ use Rattle.std.specs.Ordering.{nat_cmp}
 use Rattle.std.specs.declared.cmp.Ordering.{Ordering}
 use Rattle.std.specs.declared.cmp.Ordering.TheVariants.{Less, Equal}
 use Rattle.std.proofs.lemmas.List.Elements.{Contains-append_cases, Contains-append_left, Contains-append_right}
-use Rattle.dns_name.specs.Name.{AreSame, IsBelow, folded_labels, parent_of}
+use Rattle.dns_name.specs.Name.{AreSame, IsBelow, parent_of}
 use Rattle.naptr_data.specs.Zones.{Labels}
 use Rattle.naptr_data.proofs.BelowLemmas.{below_itself, below_more, below_same_name}
 use Rattle.naptr_data.proofs.DecideLemmas.{below_parts}
-use Rattle.naptr_data.proofs.CutLemmas.{Contains-after, Contains-head, Contains-middle, Contains-none, head_or_after}
+use Rattle.naptr_data.proofs.CutLemmas.{Contains-head, Contains-middle, head_or_after}
 use Rattle.naptr_rule.specs.Rdata.{rdata}
 use Rattle.naptr_rule.specs.declared.rule.Naptr.{Naptr}
 use Rattle.dns_wire.specs.Kinds.{is_whole, kind_of, naptr, ns, soa}
@@ -31,7 +31,7 @@ use Rattle.zone_build.proofs.RdataLemmas.{kind_is}
 use Rattle.zone_build.proofs.SizeLemmas.{one_set}
 use Rattle.zone_db.specs.LookUp.{HasKind, IsCut}
 use Rattle.zone_db.proofs.SeekLemmas.{set_has, set_none}
-use Rattle.registry.specs.Commands.{HasNoRoom, HasRecord, HasRule, IsRuleAt}
+use Rattle.registry.specs.Commands.{HasNoRoom, HasRecord, HasRule}
 use Rattle.registry.specs.Holding.{AreRules, IsPlace}
 use Rattle.registry.specs.declared.place.Place.{Place}
 use Rattle.registry.specs.declared.place.Place.TheVariants as place

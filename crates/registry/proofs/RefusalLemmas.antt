@@ -1,5 +1,5 @@
 -- The first refusal of a command.
-use Rattle.std.proofs.Common.{◌≡◌, ◌≢◌, ◌⊎◌, inl, inr, ℕ, ◌<◌, refl, arith}
+use Rattle.std.proofs.Common.{inl, inr, ◌<◌, arith}
 use Rattle.dns_name.specs.Name.{IsBelow}
 use Rattle.naptr_data.specs.Zones.{Labels}
 use Rattle.naptr_data.proofs.DecideLemmas.{Either, below_or_not}
@@ -10,7 +10,7 @@ use Rattle.zone_build.specs.Zone.{Zone}
 use Rattle.zone_db.specs.LookUp.{HasKind}
 use Rattle.rule_check.specs.WellFormed.{IsFirstFault}
 use Rattle.rule_check.specs.declared.fault.RuleFault.{RuleFault}
-use Rattle.registry.specs.Commands.{Command, HasNoRoom, HasRecord, HasRule, IsOutside, IsRefusal, Refuses, add, number, set_alias}
+use Rattle.registry.specs.Commands.{HasNoRoom, HasRecord, HasRule, IsOutside, IsRefusal, Refuses, add, number, set_alias}
 use Rattle.registry.specs.declared.fault.RegistryFault.{RegistryFault}
 use Rattle.registry.specs.declared.fault.RegistryFault.TheVariants as fault
 

@@ -1,16 +1,14 @@
 -- A valid zone is the one that its records make.
-use Rattle.std.proofs.Common.{◌≡◌, ◌≢◌, ◌⊎◌, inl, inr, ℕ, ◌+◌, ◌-◌, ◌<◌, ◌≤◌, List, [], ◌∷◌, ◌++◌, length, take, drop, get_or, refl, sym, ap, subst, ◌∙◌, arith}
+use Rattle.std.proofs.Common.{◌≡◌, ◌≢◌, inl, inr, ◌+◌, ◌-◌, List, [], ◌∷◌, ◌++◌, length, take, drop, get_or, refl, sym, ap, subst, ◌∙◌, arith}
 use Rattle.std.specs.Prelude.{Contains}
-use Rattle.std.specs.List.{AllByRecursion}
 use Rattle.std.specs.declared.cmp.Ordering.TheVariants.{Less, Equal}
 use Rattle.std.proofs.lemmas.List.{drop_more, length-take-le, take-append-drop, take_all}
-use Rattle.dns_name.specs.Name.{folded_labels}
 use Rattle.naptr_data.specs.Zones.{Labels}
 use Rattle.naptr_data.proofs.CutLemmas.{head_or_after}
 use Rattle.dns_wire.specs.Kinds.{soa}
 use Rattle.dns_wire.specs.declared.record.Record.{Record}
-use Rattle.zone_build.specs.Zone.{Zone, AreOneSet, AreRepeats, IsCanonical, IsRising, IsValid, order_of}
-use Rattle.zone_build.specs.Built.{IsBuilt, IsFirst, IsFirstRepeat, IsKept}
+use Rattle.zone_build.specs.Zone.{Zone, AreRepeats, IsCanonical, IsValid, order_of}
+use Rattle.zone_build.specs.Built.{IsBuilt, IsFirstRepeat}
 use Rattle.zone_build.proofs.ListLemmas.{AllByRecursion-contains, AllByRecursion-made}
 use Rattle.zone_build.proofs.OrderLemmas.{repeats_equal}
 use Rattle.registry.proofs.ChangeLemmas.{zone_of}

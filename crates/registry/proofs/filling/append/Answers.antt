@@ -1,4 +1,4 @@
-use Rattle.std.proofs.Common.{◌≡◌, ◌∷◌, ◌++◌, List, ap, drop, length, take, ◌∙◌}
+use Rattle.std.proofs.Common.{◌∷◌, ◌++◌, List, ap, drop, length, take, ◌∙◌}
 use Rattle.dns_wire.specs.declared.record.Record.{Record}
 use Rattle.registry.proofs.FillLemmas.{more_held, more_put}
 use Rattle.registry.proofs.filling.append.Goals as goal

@@ -1,4 +1,4 @@
-use Rattle.std.proofs.Common.{subst, sym}
+use Rattle.std.proofs.Common.{subst}
 use Rattle.std.specs.Prelude.{Contains}
 use Rattle.registry.proofs.FillLemmas.{earlier_at}
 use Rattle.registry.proofs.filling.filled.Goals as goal

@@ -1,4 +1,3 @@
-use Rattle.std.proofs.Common.{arith}
 use Rattle.registry.proofs.LookLemmas.{has_kind}
 use Rattle.registry.proofs.registry.Registry.has_kind.Goals as goal
 

@@ -1,6 +1,4 @@
-use Rattle.std.proofs.Common.{◌≡◌, ℕ, refl, sym, subst}
-use Rattle.dns_name.specs.Name.{AreSame}
-use Rattle.zone_build.specs.Zone.{Zone}
+use Rattle.std.proofs.Common.{refl, sym, subst}
 use Rattle.zone_db.specs.LookUp.{HasKind}
 use Rattle.std.specs.List.{AllByRecursion}
 use Rattle.std.proofs.Common.{take}

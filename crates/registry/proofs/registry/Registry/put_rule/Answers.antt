@@ -1,4 +1,4 @@
-use Rattle.std.proofs.Common.{◌≡◌, ◌∷◌, ◌++◌, drop, refl, subst, sym, take, arith}
+use Rattle.std.proofs.Common.{subst, sym, arith}
 use Rattle.dns_name.specs.Name.{IsBelow}
 use Rattle.dns_wire.specs.Kinds.{cname, naptr}
 use Rattle.dns_wire.specs.declared.content.Content.TheVariants as content
@@ -6,10 +6,8 @@ use Rattle.dns_wire.specs.declared.record.Record.{Record}
 use Rattle.zone_build.specs.Zone.{Zone}
 use Rattle.zone_db.specs.LookUp.{HasKind}
 use Rattle.registry.specs.Commands.{HasNoRoom, HasRule, IsNew, IsWith}
-use Rattle.registry.specs.Holding.{IsPlace}
-use Rattle.registry.specs.declared.place.Place.TheVariants as place
 use Rattle.registry.proofs.ChangeLemmas.{zone_of}
-use Rattle.registry.proofs.CommandLemmas.{IsMade, free_place, free_within, rule_held, rule_put}
+use Rattle.registry.proofs.CommandLemmas.{free_place, free_within, rule_held, rule_put}
 use Rattle.registry.proofs.LookLemmas.{are_rules, set_after_start}
 use Rattle.registry.proofs.registry.Registry.put_rule.Goals as goal
 

@@ -1,4 +1,4 @@
-use Rattle.std.proofs.Common.{◌∷◌, ap, subst}
+use Rattle.std.proofs.Common.{subst}
 use Rattle.zone_build.specs.Zone.{Zone, IsSet}
 use Rattle.registry.proofs.LookLemmas.{set_after_start}
 use Rattle.registry.proofs.registry.Registry.set.Goals as goal

@@ -1,10 +1,9 @@
-use Rattle.std.proofs.Common.{◌≡◌, refl, subst, sym, arith}
+use Rattle.std.proofs.Common.{subst, sym, arith}
 use Rattle.dns_wire.specs.Kinds.{naptr}
 use Rattle.dns_wire.specs.declared.record.Record.{Record}
-use Rattle.zone_build.specs.Zone.{Zone}
 use Rattle.registry.specs.Commands.{HasRule, IsRuleAt, IsWith}
 use Rattle.registry.proofs.ChangeLemmas.{zone_of}
-use Rattle.registry.proofs.CommandLemmas.{last_rule_taken, rule_taken, taken_held, taken_place, taken_within}
+use Rattle.registry.proofs.CommandLemmas.{last_rule_taken, rule_taken, taken_held}
 use Rattle.registry.proofs.LookLemmas.{are_rules, free_lacks, set_after_start}
 use Rattle.registry.proofs.registry.Registry.take_rule.Goals as goal
 

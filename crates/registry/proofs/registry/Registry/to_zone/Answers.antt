@@ -1,7 +1,6 @@
-use Rattle.std.proofs.Common.{◌≡◌, ◌∷◌, ◌++◌, [], List, ap, subst, sym, ◌∙◌}
+use Rattle.std.proofs.Common.{◌≡◌, ◌∷◌, ◌++◌, [], ap, subst, sym, ◌∙◌}
 use Rattle.std.specs.Prelude.{Contains}
 use Rattle.dns_wire.specs.declared.record.Record.{Record}
-use Rattle.zone_build.specs.Zone.{Zone, IsValid}
 use Rattle.zone_build.specs.Built.{IsBuilt}
 use Rattle.registry.proofs.ChangeLemmas.{zone_of}
 use Rattle.registry.proofs.ZoneLemmas.{valid_is_built}

@@ -1,5 +1,4 @@
-use Rattle.std.proofs.Common.{[], ap, sym, subst, ◌∙◌}
-use Rattle.dns_wire.specs.declared.record.Record.{Record}
+use Rattle.std.proofs.Common.{[], sym, subst}
 use Rattle.dns_name.specs.Name.{folded_labels}
 use Rattle.zone_build.specs.Zone.{IsRising, IsSet}
 use Rattle.registry.specs.Holding.{IsHeld, records_in}
