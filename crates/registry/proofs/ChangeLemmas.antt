@@ -13,7 +13,7 @@ use Rattle.dns_wire.specs.Rdata.{rdata_of}
 use Rattle.dns_wire.specs.declared.record.Record.{Record}
 use Rattle.zone_build.specs.Zone.{Zone, AreOneSet, AreRepeats, IsCanonical, IsIn, IsPlain, IsRising, IsSet, IsValid, IsWildcard, weight}
 use Rattle.zone_build.proofs.ListLemmas.{AllByRecursion-contains, AllByRecursion-made}
-use Rattle.zone_build.proofs.MakeZoneLemmas.{some_set}
+use Rattle.zone_build.proofs.ZoneOrFaultLemmas.{some_set}
 use Rattle.zone_build.proofs.SizeLemmas.{set_same_name}
 use Rattle.registry.specs.Commands.{IsWith}
 use Rattle.registry.specs.Holding.{IsPut}
@@ -177,7 +177,7 @@ module _ (old new : Zone) (one : Record) (v : IsValid old) (w : IsWith old one n
   valid_with = record {
     plain = each IsPlain fit.plain v.plain;
     order = w.order;
-    start = each (λ (y : Record). y.kind ≡ soa → y.owner ≡ new.apex) (λ k. absurd (fit.no_soa k)) (λ y c k. v.start y c k ∙ sym w.apex);
+    soa = each (λ (y : Record). y.kind ≡ soa → y.owner ≡ new.apex) (λ k. absurd (fit.no_soa k)) (λ y c k. v.soa y c k ∙ sym w.apex);
     folded = each (λ (y : Record). folded_labels y.owner ≡ y.owner) fit.folded v.folded;
     inside = each (λ (y : Record). IsBelow y.owner new.apex) (subst (λ a. IsBelow one.owner a) (sym w.apex) fit.inside)
         (λ y c. subst (λ a. IsBelow y.owner a) (sym w.apex) (v.inside y c));
@@ -209,7 +209,7 @@ module _ (old new : Zone) (one : Record) (v : IsValid old) (w : IsWith new one o
   valid_without = record {
     plain = λ y c. v.plain y (was y c);
     order = order;
-    start = λ y c k. v.start y (was y c) k ∙ w.apex;
+    soa = λ y c k. v.soa y (was y c) k ∙ w.apex;
     folded = λ y c. v.folded y (was y c);
     inside = λ y c. subst (λ a. IsBelow y.owner a) w.apex (v.inside y (was y c));
     ttl = λ x y c d. v.ttl x y (was x c) (was y d);
@@ -220,7 +220,7 @@ module _ (old new : Zone) (one : Record) (v : IsValid old) (w : IsWith new one o
 
 -- the zone of an apex, an SOA and other records
 abbrev pub zone_of : Labels → Record → List Record → Zone
-zone_of apex start others = record { apex = apex; records = start ∷ others }
+zone_of apex the_soa others = record { apex = apex; records = the_soa ∷ others }
 
 one_more : (b x y a : List Record) (one : Record) → b ++ ((x ++ one ∷ y) ++ a) ≡ (b ++ x) ++ one ∷ (y ++ a)
 one_more b x y a one = ap (λ l. b ++ l) (append_assoc x (one ∷ y) a) ∙ sym (append_assoc b x (one ∷ (y ++ a)))
@@ -228,16 +228,16 @@ one_more b x y a one = ap (λ l. b ++ l) (append_assoc x (one ∷ y) a) ∙ sym 
 one_less : (b x y a : List Record) → b ++ ((x ++ y) ++ a) ≡ (b ++ x) ++ (y ++ a)
 one_less b x y a = ap (λ l. b ++ l) (append_assoc x y a) ∙ sym (append_assoc b x (y ++ a))
 
-module _ (apex : Labels) (start : Record) (olds news set more : List Record) (one : Record) (v : IsValid (zone_of apex start olds))
+module _ (apex : Labels) (the_soa : Record) (olds news set more : List Record) (one : Record) (v : IsValid (zone_of apex the_soa olds))
     (front back : List Record) (was : set ≡ front ++ back) (is : more ≡ front ++ one ∷ back) where
   -- a set with one record more is put in
-  pub put_with : IsPut olds news set more → IsRising news → one.kind ≢ soa → IsWith (zone_of apex start olds) one (zone_of apex start news)
+  pub put_with : IsPut olds news set more → IsRising news → one.kind ≢ soa → IsWith (zone_of apex the_soa olds) one (zone_of apex the_soa news)
   put_with p rising other = record {
-    before = start ∷ (p.before ++ front);
+    before = the_soa ∷ (p.before ++ front);
     after = back ++ p.after;
     apex = refl;
-    without = ap (λ l. start ∷ l) olds_are;
-    with_it = ap (λ l. start ∷ l) news_are;
+    without = ap (λ l. the_soa ∷ l) olds_are;
+    with_it = ap (λ l. the_soa ∷ l) news_are;
     order = (v.order.0, AllByRecursion-made (λ (y : Record). y.kind ≢ soa) news no_soa, rising);
   }
     where
@@ -253,20 +253,20 @@ module _ (apex : Labels) (start : Record) (olds news set more : List Record) (on
         | inr there ↦ AllByRecursion-contains (λ (r : Record). r.kind ≢ soa) olds y v.order.1 (subst (λ l. Contains l y) (sym olds_are) there)
       ]
 
-module _ (apex : Labels) (start : Record) (olds news set less : List Record) (one : Record) (v : IsValid (zone_of apex start olds))
+module _ (apex : Labels) (the_soa : Record) (olds news set less : List Record) (one : Record) (v : IsValid (zone_of apex the_soa olds))
     (front back : List Record) (was : set ≡ front ++ one ∷ back) (is : less ≡ front ++ back) where
   -- a set with one record less is put in
-  pub put_without : IsPut olds news set less → IsWith (zone_of apex start news) one (zone_of apex start olds)
+  pub put_without : IsPut olds news set less → IsWith (zone_of apex the_soa news) one (zone_of apex the_soa olds)
   put_without p = record {
-    before = start ∷ (p.before ++ front);
+    before = the_soa ∷ (p.before ++ front);
     after = back ++ p.after;
     apex = refl;
-    without = ap (λ l. start ∷ l) (p.is ∙ ap (λ l. p.before ++ (l ++ p.after)) is ∙ one_less p.before front back p.after);
-    with_it = ap (λ l. start ∷ l) (p.was ∙ ap (λ l. p.before ++ (l ++ p.after)) was ∙ one_more p.before front back p.after one);
+    without = ap (λ l. the_soa ∷ l) (p.is ∙ ap (λ l. p.before ++ (l ++ p.after)) is ∙ one_less p.before front back p.after);
+    with_it = ap (λ l. the_soa ∷ l) (p.was ∙ ap (λ l. p.before ++ (l ++ p.after)) was ∙ one_more p.before front back p.after one);
     order = v.order;
   }
 
-  pub canonical_without : IsPut olds news set less → IsRising news → IsCanonical (start ∷ news)
+  pub canonical_without : IsPut olds news set less → IsRising news → IsCanonical (the_soa ∷ news)
   canonical_without p rising = (
     v.order.0,
     AllByRecursion-made (λ (y : Record). y.kind ≢ soa) news (λ y c.

@@ -30,7 +30,7 @@ use Rattle.registry.specs.Holding.{IsHeld, IsOf, IsPlace, IsPut, ttl_after}
 use Rattle.registry.specs.declared.place.Place.{Place}
 use Rattle.registry.specs.declared.place.Place.TheVariants as place
 use Rattle.registry.proofs.ChangeLemmas.{IsFit, canonical_without, put_with, put_without, valid_with, valid_without, zone_of}
-use Rattle.registry.proofs.LookLemmas.{free_lacks, in_set, set_after_start, taken_has, to_set}
+use Rattle.registry.proofs.LookLemmas.{free_lacks, in_set, set_after_soa, taken_has, to_set}
 
 -- a list cut at a length
 pub cut_front : (set front back : List Record) (at : ℕ) → set ≡ front ++ back → length front ≡ at → take at set ≡ front
@@ -162,14 +162,14 @@ module _ (zone : Zone) (v : IsValid zone) (owner : Labels) (set : List Record) (
   }
 
 -- a rule that is put in
-module _ (apex : Labels) (start : Record) (olds : List Record) (v : IsValid (zone_of apex start olds)) (owner : Labels) (rule : Naptr)
+module _ (apex : Labels) (the_soa : Record) (olds : List Record) (v : IsValid (zone_of apex the_soa olds)) (owner : Labels) (rule : Naptr)
     (set : List Record) (s : IsSet olds owner naptr set) (h : IsHeld (folded_labels owner) naptr set) where
-  whole_set : IsSet (start ∷ olds) owner naptr set
-  whole_set = set_after_start start olds set owner naptr v.order.0 (λ e. omega (arith, e)) s
+  whole_set : IsSet (the_soa ∷ olds) owner naptr set
+  whole_set = set_after_soa the_soa olds set owner naptr v.order.0 (λ e. omega (arith, e)) s
 
   pub free_place : (p : Place) (at : ℕ) → IsPlace set rule p → (p ≡ place.Taken at) ⊎ (p ≡ place.Free at)
-      → ¬ HasRule (zone_of apex start olds) owner rule → IsPlace set rule (place.Free at)
-  free_place p at is (inl e) new = absurd (new (taken_has (zone_of apex start olds) set owner rule at whole_set (subst (IsPlace set rule) e is)))
+      → ¬ HasRule (zone_of apex the_soa olds) owner rule → IsPlace set rule (place.Free at)
+  free_place p at is (inl e) new = absurd (new (taken_has (zone_of apex the_soa olds) set owner rule at whole_set (subst (IsPlace set rule) e is)))
   free_place p at is (inr e) new = subst (IsPlace set rule) e is
 
   pub free_within : (at : ℕ) → IsPlace set rule (place.Free at) → at ≤ length set
@@ -191,42 +191,42 @@ module _ (apex : Labels) (start : Record) (olds : List Record) (v : IsValid (zon
       })
 
   pub rule_fit : (one : Record) → IsMade owner set (content.Naptr rule) one → IsBelow owner apex
-      → ¬ HasKind (zone_of apex start olds) owner cname → ¬ HasNoRoom (zone_of apex start olds) owner rule → IsFit (zone_of apex start olds) one
+      → ¬ HasKind (zone_of apex the_soa olds) owner cname → ¬ HasNoRoom (zone_of apex the_soa olds) owner rule → IsFit (zone_of apex the_soa olds) one
   rule_fit one made inside unaliased room =
-      made_fit (zone_of apex start olds) v owner set (content.Naptr rule) one made whole_set refl (λ e. omega (arith, e)) (λ e. omega (arith, e))
+      made_fit (zone_of apex the_soa olds) v owner set (content.Naptr rule) one made whole_set refl (λ e. omega (arith, e)) (λ e. omega (arith, e))
       inside (λ other c same. ((λ e. omega (arith, e)), (λ k. unaliased (other, c, (same, k)))))
       (fits (weight set + (265 + length (rdata rule))) (λ full. room (set, whole_set, full)))
     where
       fits : (n : ℕ) → ¬ (60_000 < n) → n ≤ 60_000
       fits n not = grind arith
 
-  pub rule_new : (one : Record) → IsMade owner set (content.Naptr rule) one → IsNew (zone_of apex start olds) owner (content.Naptr rule) one
-  rule_new one made = made_new (zone_of apex start olds) v owner set (content.Naptr rule) one made whole_set
+  pub rule_new : (one : Record) → IsMade owner set (content.Naptr rule) one → IsNew (zone_of apex the_soa olds) owner (content.Naptr rule) one
+  rule_new one made = made_new (zone_of apex the_soa olds) v owner set (content.Naptr rule) one made whole_set
 
   -- what adding a rule makes
   pub rule_put : (at : ℕ) (one : Record) (more news : List Record) → IsPlace set rule (place.Free at) → IsMade owner set (content.Naptr rule) one
       → more ≡ take at set ++ one ∷ drop at set → IsPut olds news set more → IsRising news → IsBelow owner apex
-      → ¬ HasKind (zone_of apex start olds) owner cname → ¬ HasNoRoom (zone_of apex start olds) owner rule
-      → IsValid (zone_of apex start news)
-      × ((made : Record) × IsNew (zone_of apex start olds) owner (content.Naptr rule) made × IsWith (zone_of apex start olds) made (zone_of apex start news))
+      → ¬ HasKind (zone_of apex the_soa olds) owner cname → ¬ HasNoRoom (zone_of apex the_soa olds) owner rule
+      → IsValid (zone_of apex the_soa news)
+      × ((made : Record) × IsNew (zone_of apex the_soa olds) owner (content.Naptr rule) made × IsWith (zone_of apex the_soa olds) made (zone_of apex the_soa news))
   rule_put at one more news (front, back, is, size, before, after) made e put rising inside unaliased room =
       let cut : more ≡ front ++ one ∷ back =
       e ∙ ap (λ l. l ++ one ∷ drop at set) (cut_front set front back at is size) ∙ ap (λ l. front ++ one ∷ l) (cut_back set front back at is size) in
-      let with : IsWith (zone_of apex start olds) one (zone_of apex start news) =
-      put_with apex start olds news set more one v front back is cut put rising (λ k. omega (arith, made.kind, k)) in (
-        valid_with (zone_of apex start olds) (zone_of apex start news) one v with (rule_fit one made inside unaliased room),
+      let with : IsWith (zone_of apex the_soa olds) one (zone_of apex the_soa news) =
+      put_with apex the_soa olds news set more one v front back is cut put rising (λ k. omega (arith, made.kind, k)) in (
+        valid_with (zone_of apex the_soa olds) (zone_of apex the_soa news) one v with (rule_fit one made inside unaliased room),
         (one, rule_new one made, with),
       )
 
 -- a rule that is taken away
-module _ (apex : Labels) (start : Record) (olds : List Record) (v : IsValid (zone_of apex start olds)) (owner : Labels) (rule : Naptr)
+module _ (apex : Labels) (the_soa : Record) (olds : List Record) (v : IsValid (zone_of apex the_soa olds)) (owner : Labels) (rule : Naptr)
     (set : List Record) (s : IsSet olds owner naptr set) (h : IsHeld (folded_labels owner) naptr set) where
-  all_set : IsSet (start ∷ olds) owner naptr set
-  all_set = set_after_start start olds set owner naptr v.order.0 (λ e. omega (arith, e)) s
+  all_set : IsSet (the_soa ∷ olds) owner naptr set
+  all_set = set_after_soa the_soa olds set owner naptr v.order.0 (λ e. omega (arith, e)) s
 
-  pub taken_place : (p : Place) → IsPlace set rule p → HasRule (zone_of apex start olds) owner rule → (at : ℕ) × IsPlace set rule (place.Taken at) × (p ≡ place.Taken at)
+  pub taken_place : (p : Place) → IsPlace set rule p → HasRule (zone_of apex the_soa olds) owner rule → (at : ℕ) × IsPlace set rule (place.Taken at) × (p ≡ place.Taken at)
   taken_place (place.Taken at) is has = (at, is, refl)
-  taken_place (place.Free at) is has = absurd (free_lacks (zone_of apex start olds) set owner rule at all_set is has)
+  taken_place (place.Free at) is has = absurd (free_lacks (zone_of apex the_soa olds) set owner rule at all_set is has)
 
   pub taken_within : (at : ℕ) → IsPlace set rule (place.Taken at) → at < length set
   taken_within at (front, one, back, is, size, same) =
@@ -243,20 +243,20 @@ module _ (apex : Labels) (start : Record) (olds : List Record) (v : IsValid (zon
   -- what removing a rule makes
   without_rule : (front back less news : List Record) (one : Record) → set ≡ front ++ one ∷ back → less ≡ front ++ back
       → rdata_of one.content ≡ rdata rule → IsPut olds news set less → IsRising news
-      → IsValid (zone_of apex start news)
-      × ((gone : Record) × IsRuleAt owner rule gone × IsWith (zone_of apex start news) gone (zone_of apex start olds))
+      → IsValid (zone_of apex the_soa news)
+      × ((gone : Record) × IsRuleAt owner rule gone × IsWith (zone_of apex the_soa news) gone (zone_of apex the_soa olds))
   without_rule front back less news one is cut same put rising =
-      let without = put_without apex start olds news set less one v front back is cut put in
+      let without = put_without apex the_soa olds news set less one v front back is cut put in
       let c : Contains set one = subst (λ l. Contains l one) (sym is) (Contains-middle front one back) in (
-        valid_without (zone_of apex start olds) (zone_of apex start news) one v without
-            (canonical_without apex start olds news set less one v front back is cut put rising),
+        valid_without (zone_of apex the_soa olds) (zone_of apex the_soa news) one v without
+            (canonical_without apex the_soa olds news set less one v front back is cut put rising),
         (one, (AllByRecursion-contains (IsIn owner naptr) set one s.each c, same), without),
       )
 
   pub rule_taken : (at : ℕ) (less news : List Record) → IsPlace set rule (place.Taken at) → less ≡ take at set ++ drop (at + 1) set
       → IsPut olds news set less → IsRising news
-      → IsValid (zone_of apex start news)
-      × ((gone : Record) × IsRuleAt owner rule gone × IsWith (zone_of apex start news) gone (zone_of apex start olds))
+      → IsValid (zone_of apex the_soa news)
+      × ((gone : Record) × IsRuleAt owner rule gone × IsWith (zone_of apex the_soa news) gone (zone_of apex the_soa olds))
   rule_taken at less news (front, one, back, is, size, same) e put rising =
       without_rule front back less news one is
       (e ∙ ap (λ l. l ++ drop (at + 1) set) (cut_front set front (one ∷ back) at is size)
@@ -271,55 +271,55 @@ module _ (apex : Labels) (start : Record) (olds : List Record) (v : IsValid (zon
   ]
   only (x ∷ y ∷ xs) one c short = absurd (omega (arith, short))
 
-  pub last_rule_taken : (news : List Record) → HasRule (zone_of apex start olds) owner rule → length set < 2 → IsPut olds news set [] → IsRising news
-      → IsValid (zone_of apex start news)
-      × ((gone : Record) × IsRuleAt owner rule gone × IsWith (zone_of apex start news) gone (zone_of apex start olds))
+  pub last_rule_taken : (news : List Record) → HasRule (zone_of apex the_soa olds) owner rule → length set < 2 → IsPut olds news set [] → IsRising news
+      → IsValid (zone_of apex the_soa news)
+      × ((gone : Record) × IsRuleAt owner rule gone × IsWith (zone_of apex the_soa news) gone (zone_of apex the_soa olds))
   last_rule_taken news (one, c, (i, same)) short put rising =
-      without_rule [] [] [] news one (only set one (to_set (start ∷ olds) set owner naptr one all_set c i) short) refl same put rising
+      without_rule [] [] [] news one (only set one (to_set (the_soa ∷ olds) set owner naptr one all_set c i) short) refl same put rising
 
 -- aliases
-module _ (apex : Labels) (start : Record) (olds : List Record) (v : IsValid (zone_of apex start olds)) (owner : Labels)
+module _ (apex : Labels) (the_soa : Record) (olds : List Record) (v : IsValid (zone_of apex the_soa olds)) (owner : Labels)
     (set : List Record) (s : IsSet olds owner cname set) (h : IsHeld (folded_labels owner) cname set) where
-  alias_set : IsSet (start ∷ olds) owner cname set
-  alias_set = set_after_start start olds set owner cname v.order.0 (λ e. omega (arith, e)) s
+  alias_set : IsSet (the_soa ∷ olds) owner cname set
+  alias_set = set_after_soa the_soa olds set owner cname v.order.0 (λ e. omega (arith, e)) s
 
   nothing_there : (xs : List Record) → ((x : Record) → Contains xs x → ⊥) → xs ≡ []
   nothing_there [] lacks = refl
   nothing_there (x ∷ xs) lacks = absurd (lacks x (Contains-head x xs))
 
-  no_alias : ¬ HasRecord (zone_of apex start olds) owner → set ≡ []
+  no_alias : ¬ HasRecord (zone_of apex the_soa olds) owner → set ≡ []
   no_alias none =
-      nothing_there set (λ x c. none (x, in_set (start ∷ olds) set owner cname x alias_set c, (AllByRecursion-contains (IsIn owner cname) set x s.each c).0))
+      nothing_there set (λ x c. none (x, in_set (the_soa ∷ olds) set owner cname x alias_set c, (AllByRecursion-contains (IsIn owner cname) set x s.each c).0))
 
   alone_held : (one : Record) → IsOf (folded_labels owner) cname one → IsHeld (folded_labels owner) cname (one ∷ [])
   alone_held one of = record { each = (of, tt); rising = (tt, tt) }
 
-  alias_more : (one : Record) (more : List Record) → ¬ HasRecord (zone_of apex start olds) owner
+  alias_more : (one : Record) (more : List Record) → ¬ HasRecord (zone_of apex the_soa olds) owner
       → more ≡ take (length set) set ++ one ∷ drop (length set) set → more ≡ one ∷ []
   alias_more one more none e =
       e ∙ ap (λ l. take (length l) l ++ one ∷ drop (length l) l) (no_alias none)
 
   pub alias_held : (target : Labels) (one : Record) (more : List Record) → IsMade owner set (content.Cname target) one
-      → ¬ HasRecord (zone_of apex start olds) owner → more ≡ take (length set) set ++ one ∷ drop (length set) set
+      → ¬ HasRecord (zone_of apex the_soa olds) owner → more ≡ take (length set) set ++ one ∷ drop (length set) set
       → IsHeld (folded_labels owner) cname more
   alias_held target one more made none e =
       subst (IsHeld (folded_labels owner) cname) (sym (alias_more one more none e)) (alone_held one (made.at, made.kind))
 
   -- what an alias makes
   pub alias_put : (target : Labels) (one : Record) (more news : List Record) → length (rdata_of (content.Cname target)) ≤ 255
-      → IsMade owner set (content.Cname target) one → ¬ HasRecord (zone_of apex start olds) owner
+      → IsMade owner set (content.Cname target) one → ¬ HasRecord (zone_of apex the_soa olds) owner
       → more ≡ take (length set) set ++ one ∷ drop (length set) set → IsPut olds news set more → IsRising news → IsBelow owner apex
-      → IsValid (zone_of apex start news)
-      × ((made : Record) × IsNew (zone_of apex start olds) owner (content.Cname target) made × IsWith (zone_of apex start olds) made (zone_of apex start news))
+      → IsValid (zone_of apex the_soa news)
+      × ((made : Record) × IsNew (zone_of apex the_soa olds) owner (content.Cname target) made × IsWith (zone_of apex the_soa olds) made (zone_of apex the_soa news))
   alias_put target one more news short made none e put rising inside =
-      let with : IsWith (zone_of apex start olds) one (zone_of apex start news) =
-      put_with apex start olds news set more one v [] [] (no_alias none) (alias_more one more none e) put rising
+      let with : IsWith (zone_of apex the_soa olds) one (zone_of apex the_soa news) =
+      put_with apex the_soa olds news set more one v [] [] (no_alias none) (alias_more one more none e) put rising
       (λ k. omega (arith, made.kind, k)) in
       let light : weight set ≡ 0 = ap weight (no_alias none) ∙ grind arith in (
-        valid_with (zone_of apex start olds) (zone_of apex start news) one v with
-            (made_fit (zone_of apex start olds) v owner set (content.Cname target) one made alias_set refl (λ k. omega (arith, k)) (λ k. omega (arith, k))
+        valid_with (zone_of apex the_soa olds) (zone_of apex the_soa news) one v with
+            (made_fit (zone_of apex the_soa olds) v owner set (content.Cname target) one made alias_set refl (λ k. omega (arith, k)) (λ k. omega (arith, k))
             inside (λ other c same. absurd (none (other, c, same))) (omega (arith, light, short))),
-        (one, made_new (zone_of apex start olds) v owner set (content.Cname target) one made alias_set, with),
+        (one, made_new (zone_of apex the_soa olds) v owner set (content.Cname target) one made alias_set, with),
       )
 
   lone : (xs : List Record) (one : Record) → RdataRises xs → Contains xs one
@@ -339,17 +339,17 @@ module _ (apex : Labels) (start : Record) (olds : List Record) (v : IsValid (zon
       absurd (cc no)
 
   -- what dropping an alias makes
-  pub alias_taken : (news : List Record) → HasKind (zone_of apex start olds) owner cname → IsPut olds news set [] → IsRising news
-      → IsValid (zone_of apex start news)
-      × ((gone : Record) × IsIn owner cname gone × IsWith (zone_of apex start news) gone (zone_of apex start olds))
+  pub alias_taken : (news : List Record) → HasKind (zone_of apex the_soa olds) owner cname → IsPut olds news set [] → IsRising news
+      → IsValid (zone_of apex the_soa news)
+      × ((gone : Record) × IsIn owner cname gone × IsWith (zone_of apex the_soa news) gone (zone_of apex the_soa olds))
   alias_taken news (one, c, i) put rising =
-      let there : Contains set one = to_set (start ∷ olds) set owner cname one alias_set c i in
+      let there : Contains set one = to_set (the_soa ∷ olds) set owner cname one alias_set c i in
       let is : set ≡ one ∷ [] =
       lone set one h.rising there (λ x d.
       let j : IsIn owner cname x = AllByRecursion-contains (IsIn owner cname) set x s.each d in
-      (v.alias one x c (in_set (start ∷ olds) set owner cname x alias_set d) i.1 (i.0 ∙ sym j.0)).1) in
-      let without = put_without apex start olds news set [] one v [] [] is refl put in (
-        valid_without (zone_of apex start olds) (zone_of apex start news) one v without
-            (canonical_without apex start olds news set [] one v [] [] is refl put rising),
+      (v.alias one x c (in_set (the_soa ∷ olds) set owner cname x alias_set d) i.1 (i.0 ∙ sym j.0)).1) in
+      let without = put_without apex the_soa olds news set [] one v [] [] is refl put in (
+        valid_without (zone_of apex the_soa olds) (zone_of apex the_soa news) one v without
+            (canonical_without apex the_soa olds news set [] one v [] [] is refl put rising),
         (one, i, without),
       )

@@ -11,7 +11,7 @@ use Rattle.dns_wire.specs.declared.content.Content.{Content}
 use Rattle.dns_wire.specs.declared.content.Content.TheVariants as content
 use Rattle.dns_wire.specs.declared.record.Record.{Record}
 use Rattle.zone_build.specs.Zone.{Zone, AreOneSet, AreRepeats, IsCanonical, IsIn, IsSet, IsValid, order_of}
-use Rattle.zone_build.proofs.MakeZoneLemmas.{some_set}
+use Rattle.zone_build.proofs.ZoneOrFaultLemmas.{some_set}
 use Rattle.zone_build.proofs.OneZoneLemmas.{canonical_same, same_fields}
 use Rattle.zone_build.proofs.OrderLemmas.{repeats_equal}
 use Rattle.zone_db.proofs.SeekLemmas.{set_none}
@@ -99,7 +99,7 @@ one_more old one other a b same w w' =
 before_it : (before : List Record) (b : Record) (after : List Record) → IsCanonical (before ++ b ∷ after) → (a : Record) → Contains before a
     → a.kind ≢ soa → order_of a b ≡ Less
 before_it [] b after c a h other = absurd (Contains-none a h)
-before_it (start ∷ before) b after c a h other = elim (head_or_after start before a h) [
+before_it (the_soa ∷ before) b after c a h other = elim (head_or_after the_soa before a h) [
   | inl here ↦ absurd (other (ap (λ (r : Record). r.kind) here ∙ c.0))
   | inr later ↦ rising_before before b after c.2 a later
 ]

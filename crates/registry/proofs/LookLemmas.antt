@@ -25,7 +25,7 @@ use Rattle.dns_wire.specs.Kinds.{is_whole, kind_of, naptr, ns, soa}
 use Rattle.dns_wire.specs.Rdata.{rdata_of}
 use Rattle.dns_wire.specs.declared.record.Record.{Record}
 use Rattle.zone_build.specs.Zone.{Zone, IsIn, IsSet, IsValid, weight}
-use Rattle.zone_build.proofs.IndexLemmas.{below_both}
+use Rattle.zone_build.proofs.IndexNamesLemmas.{below_both}
 use Rattle.zone_build.proofs.ListLemmas.{AllByRecursion-contains, AllByRecursion-made}
 use Rattle.zone_build.proofs.RdataLemmas.{kind_is}
 use Rattle.zone_build.proofs.SizeLemmas.{one_set}
@@ -39,12 +39,12 @@ use Rattle.registry.proofs.ChangeLemmas.{zone_of}
 use Rattle.registry.proofs.PlaceLemmas.{Earlier, Later}
 
 -- the SOA before the others is in no set but its own
-pub set_after_start : (start : Record) (others set : List Record) (owner : Labels) (kind : ℕ) → start.kind ≡ soa → kind ≢ soa
-    → IsSet others owner kind set → IsSet (start ∷ others) owner kind set
-set_after_start start others set owner kind is other s = record {
-  before = start ∷ s.before;
+pub set_after_soa : (the_soa : Record) (others set : List Record) (owner : Labels) (kind : ℕ) → the_soa.kind ≡ soa → kind ≢ soa
+    → IsSet others owner kind set → IsSet (the_soa ∷ others) owner kind set
+set_after_soa the_soa others set owner kind is other s = record {
+  before = the_soa ∷ s.before;
   after = s.after;
-  parts = ap (λ l. start ∷ l) s.parts;
+  parts = ap (λ l. the_soa ∷ l) s.parts;
   each = s.each;
   none_before = ((λ i. other (sym i.1 ∙ is)), s.none_before);
   none_after = s.none_after;
@@ -162,9 +162,9 @@ has_rule_there zone set owner rule (place.Free at) s is = free_lacks zone set ow
 pub kind_record : (zone : Zone) (owner : Labels) (kind : ℕ) → HasKind zone owner kind → HasRecord zone owner
 kind_record zone owner kind (one, c, i) = (one, c, i.0)
 
-pub start_record : (apex : Labels) (start : Record) (others : List Record) (owner : Labels) → AreSame start.owner owner
-    → HasRecord (zone_of apex start others) owner
-start_record apex start others owner same = (start, Contains-head start others, same)
+pub soa_record : (apex : Labels) (the_soa : Record) (others : List Record) (owner : Labels) → AreSame the_soa.owner owner
+    → HasRecord (zone_of apex the_soa others) owner
+soa_record apex the_soa others owner same = (the_soa, Contains-head the_soa others, same)
 
 pub all_more : (P : ℕ → Type 0) (kinds : List ℕ) (i d : ℕ) → i < length kinds → AllByRecursion P (take i kinds) → P (get_or kinds i d)
     → AllByRecursion P (take (i + 1) kinds)
@@ -188,16 +188,16 @@ of_ten P (content.Naptr rule) whole other all = all.1.1.1.1.1.1.1.1.0
 of_ten P (content.Opt options) whole other all = absurd (cc whole)
 of_ten P (content.Raw bytes) whole other all = absurd (cc whole)
 
-pub no_record : (apex : Labels) (start : Record) (others : List Record) (owner : Labels) → IsValid (zone_of apex start others)
-    → (AreSame start.owner owner → ⊥) → (i : ℕ) → length other_kinds ≤ i
-    → AllByRecursion (λ kind. ¬ HasKind (zone_of apex start others) owner kind) (take i other_kinds)
-    → HasRecord (zone_of apex start others) owner → ⊥
-no_record apex start others owner v apart i end none (one, c, same) = elim (head_or_after start others one c) [
+pub no_record : (apex : Labels) (the_soa : Record) (others : List Record) (owner : Labels) → IsValid (zone_of apex the_soa others)
+    → (AreSame the_soa.owner owner → ⊥) → (i : ℕ) → length other_kinds ≤ i
+    → AllByRecursion (λ kind. ¬ HasKind (zone_of apex the_soa others) owner kind) (take i other_kinds)
+    → HasRecord (zone_of apex the_soa others) owner → ⊥
+no_record apex the_soa others owner v apart i end none (one, c, same) = elim (head_or_after the_soa others one c) [
   | inl here ↦ apart (subst (λ (r : Record). AreSame r.owner owner) here same)
   | inr later ↦
       let kinds : one.kind ≡ kind_of one.content = kind_is one.content one.kind one.class one.belongs (v.plain one c).whole in
       let other : kind_of one.content ≢ soa = λ e. AllByRecursion-contains (λ (r : Record). r.kind ≢ soa) others one v.order.1 later (kinds ∙ e) in
-      of_ten (λ kind. ¬ HasKind (zone_of apex start others) owner kind) one.content (v.plain one c).whole other
-      (subst (AllByRecursion (λ kind. ¬ HasKind (zone_of apex start others) owner kind)) (take_all i other_kinds end) none)
+      of_ten (λ kind. ¬ HasKind (zone_of apex the_soa others) owner kind) one.content (v.plain one c).whole other
+      (subst (AllByRecursion (λ kind. ¬ HasKind (zone_of apex the_soa others) owner kind)) (take_all i other_kinds end) none)
       (one, c, (same, kinds))
 ]

@@ -17,7 +17,7 @@ use Rattle.registry.proofs.FillLemmas.{earlier_at}
 -- a record is the first of its repeats among records in canonical order
 first_itself : (records : List Record) → IsCanonical records → (kept : Record) → Contains records kept → IsFirstRepeat records kept kept
 first_itself [] c kept h = absurd c
-first_itself (start ∷ rest) c kept h = elim (head_or_after start rest kept h) [
+first_itself (the_soa ∷ rest) c kept h = elim (head_or_after the_soa rest kept h) [
   | inl here ↦ (
     0,
     record {
@@ -32,13 +32,13 @@ first_itself (start ∷ rest) c kept h = elim (head_or_after start rest kept h) 
   | inr there ↦ later there
 ]
   where
-    later : Contains rest kept → IsFirstRepeat (start ∷ rest) kept kept
+    later : Contains rest kept → IsFirstRepeat (the_soa ∷ rest) kept kept
     later (k, l, e) = (
       k + 1,
       record {
-        before = start ∷ take k rest;
+        before = the_soa ∷ take k rest;
         after = drop (k + 1) rest;
-        parts = ap (λ l. start ∷ l) (sym (take-append-drop k rest)
+        parts = ap (λ l. the_soa ∷ l) (sym (take-append-drop k rest)
             ∙ ap (λ l. take k rest ++ l) (drop_more rest k kept l ∙ ap (λ x. x ∷ drop (k + 1) rest) e));
         at = omega (arith, length-take-le k rest (omega (arith, l)));
         here = ((refl, refl), refl);
@@ -55,7 +55,7 @@ first_itself (start ∷ rest) c kept h = elim (head_or_after start rest kept h) 
 
 pub valid_is_built : (zone : Zone) → IsValid zone → IsBuilt zone.records zone
 valid_is_built zone v = record {
-  apex = λ one c k. sym (v.start one c k) ∙ sym (v.folded one c);
+  apex = λ one c k. sym (v.soa one c k) ∙ sym (v.folded one c);
   kept = λ kept c. (
     kept,
     first_itself zone.records v.order kept c,
@@ -86,12 +86,12 @@ same_zone apex records zone e f =
     with_records a l = record { apex = a; records = l }
 
 -- a zone that is read part by part
-pub parts_make : (zone : Zone) → IsValid zone → (records : List Record) → records ≡ zone.records → (apex : Labels) (start d : Record) (rest : List Record)
-    → apex ≡ zone.apex → start ≡ get_or records 0 d → rest ≡ take (length records - 1) (drop 1 records) → zone_of apex start rest ≡ zone
-parts_make zone v records is apex start d rest e f g =
-    same_zone apex (start ∷ rest) zone e (by records (subst IsCanonical (sym is) v.order) f g ∙ is)
+pub parts_make : (zone : Zone) → IsValid zone → (records : List Record) → records ≡ zone.records → (apex : Labels) (the_soa d : Record) (rest : List Record)
+    → apex ≡ zone.apex → the_soa ≡ get_or records 0 d → rest ≡ take (length records - 1) (drop 1 records) → zone_of apex the_soa rest ≡ zone
+parts_make zone v records is apex the_soa d rest e f g =
+    same_zone apex (the_soa ∷ rest) zone e (by records (subst IsCanonical (sym is) v.order) f g ∙ is)
   where
-    by : (l : List Record) → IsCanonical l → start ≡ get_or l 0 d → rest ≡ take (length l - 1) (drop 1 l) → start ∷ rest ≡ l
+    by : (l : List Record) → IsCanonical l → the_soa ≡ get_or l 0 d → rest ≡ take (length l - 1) (drop 1 l) → the_soa ∷ rest ≡ l
     by [] c s r = absurd c
     by (x ∷ xs) c s r =
         let tail : rest ≡ xs = r ∙ take_all (length (x ∷ xs) - 1) xs (omega arith) in

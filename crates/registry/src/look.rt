@@ -53,7 +53,7 @@ impl Registry {
     pub(crate) fn has_record(&self, owner: &Name) -> bool
         ensures { IsTrue result ↔ HasRecord self.now owner.now }
     {
-        if self.start.owner.same(owner) {
+        if self.soa.owner.same(owner) {
             return true;
         }
         for kind in OTHER_KINDS {

@@ -28,7 +28,7 @@ use zone_build::{Zone, one_zone, one_zone_fault};
 pub struct Registry {
     pub(crate) alloc: Global,
     pub(crate) apex: Name,
-    pub(crate) start: Record,
+    pub(crate) soa: Record,
     pub(crate) sets: Sets,
 }
 
@@ -39,9 +39,9 @@ impl Model for Registry {
 
     ghost Value = { zone.Zone };
 
-    ghost view = { λ r. record { apex = r.apex; records = r.start ∷ r.sets } };
+    ghost view = { λ r. record { apex = r.apex; records = r.soa ∷ r.sets } };
 
-    ghost invariant = { λ r. zone.IsValid (record { apex = r.apex; records = r.start ∷ r.sets }) };
+    ghost invariant = { λ r. zone.IsValid (record { apex = r.apex; records = r.soa ∷ r.sets }) };
 }
 
 impl Registry {
@@ -56,7 +56,7 @@ impl Registry {
         Ok(Registry {
             alloc,
             apex: zone.apex(),
-            start: records[0].copy(alloc)?,
+            soa: records[0].copy(alloc)?,
             sets: filled(alloc, &records[1..])?,
         })
     }
@@ -167,7 +167,7 @@ impl Registry {
         one_zone();
         one_zone_fault();
         let mut records = Records::new(alloc);
-        records.push(self.start.copy(alloc)?)?;
+        records.push(self.soa.copy(alloc)?)?;
         self.sets.copy_to(alloc, &mut records)?;
         match Zone::build(alloc, records) {
             Ok(zone) => Ok(zone),

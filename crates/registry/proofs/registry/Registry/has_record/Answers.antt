@@ -3,13 +3,13 @@ use Rattle.zone_db.specs.LookUp.{HasKind}
 use Rattle.std.specs.List.{AllByRecursion}
 use Rattle.std.proofs.Common.{take}
 use Rattle.registry.specs.Commands.{HasRecord}
-use Rattle.registry.proofs.LookLemmas.{all_more, kind_record, no_record, other_kinds, start_record}
+use Rattle.registry.proofs.LookLemmas.{all_more, kind_record, no_record, other_kinds, soa_record}
 use Rattle.registry.proofs.registry.Registry.has_record.Goals as goal
 
 pub returns-then-same : goal.returns-then-same
 returns-then-same c = (
   λ t. subst (λ z. HasRecord z c.args.owner.now) c.self.view_is
-      (start_record c.self.inside.apex c.self.inside.start c.self.inside.sets c.args.owner.now (c.same.ensures.0 c.if-same.true)),
+      (soa_record c.self.inside.apex c.self.inside.soa c.self.inside.sets c.args.owner.now (c.same.ensures.0 c.if-same.true)),
   λ h. refl,
 )
 
@@ -27,7 +27,7 @@ loop-kind-preserved c =
 pub returns : goal.returns
 returns c = (
   λ t. cc t,
-  λ h. absurd (no_record c.self.inside.apex c.self.inside.start c.self.inside.sets c.args.owner.now c.self.invariant
+  λ h. absurd (no_record c.self.inside.apex c.self.inside.soa c.self.inside.sets c.args.owner.now c.self.invariant
       (λ same. absurd (cc (c.if-same.false, c.same.ensures.1 same))) c.loop-kind.kind-index c.loop-kind-test.false
       (subst (λ z. AllByRecursion (λ kind. ¬ HasKind z c.args.owner.now kind) (take c.loop-kind.kind-index other_kinds)) (sym c.self.view_is)
       c.loop-kind.invariant)

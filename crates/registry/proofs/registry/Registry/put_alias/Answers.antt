@@ -10,7 +10,7 @@ use Rattle.registry.proofs.registry.Registry.put_alias.Goals as goal
 
 pub put-requires : goal.put-requires
 put-requires c =
-    alias_held c.self.inside.apex c.self.inside.start c.self.inside.sets c.self.invariant c.args.owner.now c.set-set.result.now
+    alias_held c.self.inside.apex c.self.inside.soa c.self.inside.sets c.self.invariant c.args.owner.now c.set-set.result.now
     c.set-set.ensures.set c.set-set.ensures.held c.args.target.now c.fresh_record-one.result c.in_ok-more.more
     (record {
       at = c.fresh_record-one.ensures.owner;
@@ -24,7 +24,7 @@ put-requires c =
 
 pub invariant_of-self-2 : goal.invariant_of-self-2
 invariant_of-self-2 c =
-    (alias_put c.self.inside.apex c.self.inside.start c.self.inside.sets c.self.invariant c.args.owner.now c.set-set.result.now
+    (alias_put c.self.inside.apex c.self.inside.soa c.self.inside.sets c.self.invariant c.args.owner.now c.set-set.result.now
     c.set-set.ensures.set c.set-set.ensures.held c.args.target.now c.fresh_record-one.result c.in_ok-more.more c.put.new.self
     c.wire-wire.ensures.name.short
     (record {
@@ -41,8 +41,8 @@ invariant_of-self-2 c =
 pub returns-clause-ok : goal.returns-clause-ok
 returns-clause-ok c =
     subst (λ z. (one : Record) × IsNew z c.args.owner.now (content.Cname c.args.target.now) one
-    × IsWith z one (zone_of c.self.inside.apex c.self.inside.start c.put.new.self)) c.self.view_is
-    (alias_put c.self.inside.apex c.self.inside.start c.self.inside.sets c.self.invariant c.args.owner.now c.set-set.result.now
+    × IsWith z one (zone_of c.self.inside.apex c.self.inside.soa c.put.new.self)) c.self.view_is
+    (alias_put c.self.inside.apex c.self.inside.soa c.self.inside.sets c.self.invariant c.args.owner.now c.set-set.result.now
     c.set-set.ensures.set c.set-set.ensures.held c.args.target.now c.fresh_record-one.result c.in_ok-more.more c.put.new.self
     c.wire-wire.ensures.name.short
     (record {
