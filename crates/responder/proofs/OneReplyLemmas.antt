@@ -18,7 +18,8 @@ use Rattle.zone_build.proofs.SizeLemmas.{one_set}
 use Rattle.zone_db.specs.Bits.{header_of}
 use Rattle.zone_db.specs.LookUp.{Decides, Shown, shown}
 use Rattle.zone_db.specs.LookUp.Shown.{outside, cut_of, alias_of, set_of, no_set, no_name}
-use Rattle.zone_db.specs.Replies.{Adds, AddressesOf, Comes, Finds, Follows, IsDrafted, IsGlue, IsNegative, IsPosted, IsReply, IsSent, IsSpoken, Plan, Refers, says, looks_up, draft_with, is_authoritative, limit_of, nothing, options_heard, owned_by, plan_of, without_glue, without_records}
+use Rattle.zone_db.specs.Replies.{Adds, AddressesOf, Comes, Finds, Follows, IsDrafted, IsGlue, IsNegative, IsPosted}
+use Rattle.zone_db.specs.Replies.{IsReply, IsSent, IsSpoken, Plan, Refers, says, looks_up, draft_with, is_authoritative, limit_of, nothing, options_heard, owned_by, plan_of, without_glue, without_records}
 use Rattle.zone_db.specs.Sets.{AreZones}
 use Rattle.zone_db.specs.declared.draft.Added.{Added}
 use Rattle.zone_db.specs.declared.draft.Draft.{Draft}

@@ -18,10 +18,11 @@ use Rattle.dns_wire.proofs.LawLemmas.{message_or_break}
 use Rattle.dns_wire.proofs.MessageStandLemmas.{reads_back}
 use Rattle.zone_build.specs.Zone.{Zone, IsSet, IsValid}
 use Rattle.zone_build.proofs.ListLemmas.{AllByRecursion-made}
-use Rattle.zone_build.proofs.MakeZoneLemmas.{some_set}
+use Rattle.zone_build.proofs.ZoneOrFaultLemmas.{some_set}
 use Rattle.zone_db.specs.Bits.{IsSilent, header_of, qr_of, bit}
 use Rattle.zone_db.specs.LookUp.{IsFound, shown}
-use Rattle.zone_db.specs.Replies.{Adds, AddressesOf, Comes, Finds, Follows, IsDrafted, IsGlue, IsMessageOf, IsNegative, IsPosted, IsReply, IsSent, Plan, says, looks_up, bare, draft_with, is_authoritative, limit_of, nothing, options_for, options_heard, owned_by, plan_of, questions_of, reply_header, reply_options, without_glue, without_records}
+use Rattle.zone_db.specs.Replies.{Adds, AddressesOf, Comes, Finds, Follows, IsDrafted, IsGlue, IsMessageOf}
+use Rattle.zone_db.specs.Replies.{IsNegative, IsPosted, IsReply, IsSent, Plan, says, looks_up, bare, draft_with, is_authoritative, limit_of, nothing, options_for, options_heard, owned_by, plan_of, questions_of, reply_header, reply_options, without_glue, without_records}
 use Rattle.zone_db.specs.Sets.{AreZones}
 use Rattle.zone_db.specs.declared.draft.Added.{Added}
 use Rattle.zone_db.specs.declared.draft.Draft.{Draft}
@@ -332,8 +333,13 @@ sent_no_glue : (limit : ℕ) (query : Header) (options : Option Record) (draft :
 sent_no_glue limit query options draft most ranged said more few =
     let rest : IsSayable (without_glue draft) =
     record { code = said.code; question = said.question; answers = said.answers; authority = said.authority; glue = tt } in
-    let posted = some_posted query options false (without_glue draft) ranged rest (omega (arith, most, few)) in
-    (posted.0, inr (not_fits limit query options draft more, inl (fits limit query options (without_glue draft) posted.0 (omega (arith, few)) posted.1, posted.1)))
+    let posted = some_posted query options false (without_glue draft) ranged rest (omega (arith, most, few)) in (
+      posted.0,
+      inr (
+        not_fits limit query options draft more,
+        inl (fits limit query options (without_glue draft) posted.0 (omega (arith, few)) posted.1, posted.1),
+      ),
+    )
 
 sent_whole : (limit : ℕ) (query : Header) (options : Option Record) (draft : Draft) → limit ≤ 65_535 → IsHeader query → IsSayable draft
     → base_size options draft + size draft.glue ≤ limit → HasSent limit query options draft

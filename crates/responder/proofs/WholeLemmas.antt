@@ -19,7 +19,8 @@ use Rattle.dns_wire.specs.declared.record.Record.{Record}
 use Rattle.zone_build.specs.Zone.{Zone, weight}
 use Rattle.zone_db.specs.Bits.{tc_of, header_of}
 use Rattle.zone_db.specs.LookUp.{IsFound, shown}
-use Rattle.zone_db.specs.Replies.{Adds, Comes, Finds, Follows, IsDrafted, IsNegative, IsReply, Plan, says, looks_up, bare, draft_with, is_authoritative, options_for, owned_by, plan_of}
+use Rattle.zone_db.specs.Replies.{Adds, Comes, Finds, Follows, IsDrafted, IsNegative, IsReply, Plan, says, looks_up}
+use Rattle.zone_db.specs.Replies.{bare, draft_with, is_authoritative, options_for, owned_by, plan_of}
 use Rattle.zone_db.specs.Sets.{AreZones}
 use Rattle.zone_db.specs.declared.draft.Added.{Added}
 use Rattle.zone_db.specs.declared.draft.Draft.{Draft}
@@ -110,12 +111,14 @@ adds_size : (Further : Labels → Added → Type 0) (zones : List Zone) (name : 
     → ((target : Labels) (rest : Added) → IsShort target → Further target rest → added_size rest ≤ most)
     → Adds Further zones name code (shown what) added → added_size added ≤ most + 520
 adds_size Further zones name kind code most found.Outside added are ranged is short low more e = omega (arith, low, ap added_size e)
-adds_size Further zones name kind code most (found.Cut set) added are ranged (zone, owner, decides, highest, cut) short low more (zone', glue, decides', is_glue, e) =
+adds_size Further zones name kind code most (found.Cut set) added are ranged (zone, owner, decides, highest, cut) short low more
+    (zone', glue, decides', is_glue, e) =
     let few : weight set.now ≤ 60_000 = (found_ready zones name kind (found.Cut set) are (zone, owner, decides, highest, cut)).1 in
     let small : size set.now ≤ weight set.now =
     kept_small set.now (λ one c. (ranged zone one decides.among (in_set zone.records owner 2 set.now one cut c)).owner.short) in
     omega (arith, low, few, small, ap added_size e)
-adds_size Further zones name kind code most (found.Alias set) added are ranged (zone, source, served, meets, here) short low more (one, target, rest, only, tells, further, e) =
+adds_size Further zones name kind code most (found.Alias set) added are ranged (zone, source, served, meets, here) short low more
+    (one, target, rest, only, tells, further, e) =
     let among : Contains zone.records one =
     in_set zone.records source cname set.now one here (subst (λ l. Contains l one) (sym only) (Contains-head one [])) in
     let named : IsName target = subst IsContent tells (ranged zone one served.decides.among among).content in

@@ -3,7 +3,8 @@ ghost use Rattle.std.specs.Prelude.{◌≡◌, ◌<◌, length, Contains, IfOk, 
 ghost use Rattle.dns_wire.specs.declared.record.Record.{Record};
 ghost use Rattle.zone_build.specs.Zone.{IsCanonical, IsPlain, IsRising, weight};
 ghost use Rattle.zone_build.specs.Faults.{AreUnmixed, IsZoneFault};
-ghost use Rattle.zone_build.specs.Building.{AreGivens, IsOrdered, IsFirstLarge, IsApex, IsEntryApex, IsSoaFault, IsFirstCut, IsPlan, IsLastFault, Given, AreMixed, IsFirstMixed, IsLeastPlace, least_of, IsRun, givens_from};
+ghost use Rattle.zone_build.specs.Building.{AreGivens, IsOrdered, IsFirstLarge, IsApex, IsEntryApex, IsSoaFault};
+ghost use Rattle.zone_build.specs.Building.{IsFirstCut, IsPlan, IsLastFault, Given, AreMixed, IsFirstMixed, IsLeastPlace, least_of, IsRun, givens_from};
 ghost use Rattle.zone_build.specs.declared.entry.Key.TheVariants.{Set};
 
 use crate::entry::{Entry, Key};

@@ -2,7 +2,8 @@
 ghost use Rattle.std.specs.Prelude.{◌≡◌, ◌<◌, ◌≤◌, ℕ, length, IsTrue, OnOk, IfOk};
 ghost use Rattle.dns_name.specs.Name.{AreSame, IsBelow};
 ghost use Rattle.zone_build.specs.Zone.{IsCanonical};
-ghost use Rattle.zone_build.specs.Indexing.{ArePlaces, AllPlaces, IsIndex, FindsOwners, IsRunEnd, HasBelow, CoversAbove, CoversBefore, IsAboveEarlier, IsGrown, owner_at};
+ghost use Rattle.zone_build.specs.Indexing.{ArePlaces, AllPlaces, IsIndex, FindsOwners, IsRunEnd, HasBelow};
+ghost use Rattle.zone_build.specs.Indexing.{CoversAbove, CoversBefore, IsAboveEarlier, IsGrown, owner_at};
 
 use crate::index::{Index, Places, Sought, owner_at, seed_of};
 use crate::order::cmp_owners;

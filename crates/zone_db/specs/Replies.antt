@@ -1,7 +1,8 @@
 -- Replies of an authority (RFC 1034, section 4.3.2; RFC 1035, sections 4.1.1 and 4.2; RFC 2181, section 9; RFC 2308, section 3;
 -- RFC 4592; RFC 6891, sections 6 and 7). The order of the refusals, the limits of a datagram, how many aliases are followed and the
 -- set that is given for all kinds are this project's own.
-use Rattle.std.specs.Prelude.{◌≡◌, ◌⊎◌, ℕ, zero, suc, ◌+◌, ◌*◌, ◌/◌, ◌%◌, ◌^◌, ◌≤◌, ◌==◌, ◌&&◌, ◌||◌, nat_le, nat_lt, min, max, List, [], ◌∷◌, ◌++◌, length, map, filter, find, Contains, Bool, true, false, not, if◌then◌else◌, Option, Some, None}
+use Rattle.std.specs.Prelude.{◌≡◌, ◌⊎◌, ℕ, zero, suc, ◌+◌, ◌*◌, ◌/◌, ◌%◌, ◌^◌, ◌≤◌, ◌==◌, ◌&&◌, ◌||◌, nat_le, nat_lt}
+use Rattle.std.specs.Prelude.{min, max, List, [], ◌∷◌, ◌++◌, length, map, filter, find, Contains, Bool, true, false, not, if◌then◌else◌, Option, Some, None}
 use Rattle.std.specs.List.{list_all}
 use Rattle.dns_name.specs.Name.{folded_labels, wire_of, IsBelow}
 use Rattle.naptr_data.specs.Zones.{Labels}

@@ -1,7 +1,8 @@
 use Rattle.std.proofs.Common.{refl, arith}
 use Rattle.zone_build.specs.Indexing.{IsGrown, CoversAbove}
-use Rattle.zone_build.proofs.IndexLemmas.{grown_twice, covers_apex, covers_passed, covers_later, covers_more, covers_root}
-use Rattle.zone_build.proofs.IndexLemmas.{shorter_above, below_parent, ok_map, both_map}
+use Rattle.zone_build.proofs.IndexNamesLemmas.{grown_twice, covers_apex, covers_passed, covers_later, covers_more, covers_root}
+use Rattle.zone_build.proofs.IndexLemmas.{ok_map, both_map}
+use Rattle.zone_build.proofs.IndexNamesLemmas.{shorter_above, below_parent}
 use Rattle.zone_build.proofs.indexing.+add_above.Goals as goal
 
 pub add_name-requires-clause-below : goal.add_name-requires-clause-below

@@ -1,6 +1,6 @@
 use Rattle.std.proofs.Common.{subst, sym}
 use Rattle.zone_build.specs.Indexing.{CoversAbove, HasBelow}
-use Rattle.zone_build.proofs.IndexLemmas.{names_none, names_more, names_all, owner_there}
+use Rattle.zone_build.proofs.IndexNamesLemmas.{names_none, names_more, names_all, owner_there}
 use Rattle.zone_build.proofs.indexing.add_names.Goals as goal
 
 pub loop-first-init : goal.loop-first-init

@@ -1,0 +1,4 @@
+pub mod Commands
+pub mod Holding
+pub mod Keys
+pub mod Laws
