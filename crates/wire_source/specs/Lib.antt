@@ -1,0 +1,5 @@
+pub mod Laws
+pub mod Queries
+pub mod Readings
+pub mod Sorting
+pub mod Tries
