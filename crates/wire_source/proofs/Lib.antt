@@ -1,0 +1,4 @@
+pub mod AliasLemmas
+pub mod ReferLemmas
+pub mod RuleLemmas
+pub mod SortLemmas

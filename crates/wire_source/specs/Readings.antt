@@ -44,7 +44,7 @@ IsServerFault code = (code ≢ noerror) × (code ≢ nxdomain) × (code ≢ refu
 pub record Echoes (name : Labels) (questions : List Question) : Type 0 where
   pub question : Question
   pub alone : questions ≡ question ∷ []
-  pub name : AreSame question.name name
+  pub same : AreSame question.name name
   pub kind : question.kind ≡ naptr
   pub class : question.class ≡ internet
 

@@ -1,7 +1,7 @@
 -- Rules of a reply while they are sorted, for private functions alone (this project's own).
-use Rattle.std.specs.Prelude.{◌≡◌, ◌≢◌, ◌↔◌, ◌⊎◌, ℕ, ◌≤◌, List, [], ◌∷◌, ◌++◌, length, Contains}
+use Rattle.std.specs.Prelude.{◌≡◌, ◌≢◌, ◌↔◌, ◌≤◌, List, [], ◌∷◌, length, Contains}
 use Rattle.std.specs.List.{AllByRecursion}
-use Rattle.std.specs.declared.cmp.Ordering.TheVariants.{Less, Greater}
+use Rattle.std.specs.declared.cmp.Ordering.TheVariants.{Greater}
 use Rattle.naptr_rule.specs.Rank.{rank_of}
 use Rattle.naptr_rule.specs.declared.rule.Naptr.{Naptr}
 use Rattle.naptr_data.specs.Zones.{Labels, IsRising}
@@ -23,9 +23,3 @@ pub record AreOnce (rules once : List Naptr) : Type 0 where
   pub each : (rule : Naptr) → Contains once rule ↔ Contains rules rule
   pub rising : IsRising once
   pub few : length once ≤ length rules
-
--- a rule comes after all the others, which rise, exactly where it comes after the last
-abbrev pub IsFurther : List Naptr → Naptr → Type 0
-IsFurther [] rule = ⊤
-IsFurther (one ∷ []) rule = rank_of one rule ≡ Less
-IsFurther (one ∷ next ∷ rest) rule = IsFurther (next ∷ rest) rule

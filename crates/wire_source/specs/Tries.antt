@@ -28,7 +28,7 @@ HasFewRead (reading.Faulty t) = ⊤
 
 -- some exchanges were begun for the rules at a name, at most so many: each query has the next number, and over zones that are told
 -- there are at most so many of them if none failed. `Came` says what they came to, by the number of the last query
-pub record Asks (most calm : ℕ) (name : Labels) (id id' : ℕ) (old new : LinkState) (Came : ℕ → Type 0) : Type 0 where
+pub record Asks (most most_calm : ℕ) (name : Labels) (id id' : ℕ) (old new : LinkState) (Came : ℕ → Type 0) : Type 0 where
   pub count : ℕ
   pub some : 0 < count
   pub few : count ≤ most
@@ -37,7 +37,7 @@ pub record Asks (most calm : ℕ) (name : Labels) (id id' : ℕ) (old new : Link
   pub query : new.query ≡ query_bytes ((id + (count - 1)) % 2 ^ 16) name
   pub zones : new.zones ≡ old.zones
   pub faults : old.faults ≤ new.faults
-  pub calm : WhereTold old.zones (λ zones. new.faults ≡ old.faults → new.faults < 2 ^ 64 - 1 → count ≤ calm)
+  pub calm : WhereTold old.zones (λ zones. new.faults ≡ old.faults → new.faults < 2 ^ 64 - 1 → count ≤ most_calm)
   pub came : Came ((id + (count - 1)) % 2 ^ 16)
 
 -- the last exchange did not fail, its reply is read as an offer, and zones that are told make it

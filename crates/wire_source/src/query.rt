@@ -18,9 +18,13 @@ pub(crate) fn query_for(id: u16, name: &Name) -> Query
     ensures { result ≡ query_bytes id name.now }
 {
     let mut query = Query::new();
-    for number in [id, RD, 1, 0, 0, 0] {
-        push_number(&mut query, number);
-    }
+    push_number(&mut query, id);
+    push_number(&mut query, RD);
+    // One question, and no records.
+    push_number(&mut query, 1);
+    push_number(&mut query, 0);
+    push_number(&mut query, 0);
+    push_number(&mut query, 0);
     query.push_slice(name.wire());
     push_number(&mut query, NAPTR);
     push_number(&mut query, INTERNET);

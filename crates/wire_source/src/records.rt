@@ -1,5 +1,5 @@
 //! What the records of a reply say of a name.
-ghost use Rattle.std.specs.Prelude.{◌≡◌, ◌≢◌, ◌↔◌, Contains, IsTrue, IfOk, MatchOption};
+ghost use Rattle.std.specs.Prelude.{◌≡◌, ◌≢◌, ◌↔◌, [], Contains, IsTrue, IfOk, MatchOption};
 ghost use Rattle.naptr_data.specs.Sources.{HasFewRules};
 ghost use Rattle.naptr_data.specs.Zones.{Labels};
 ghost use Rattle.dns_wire.specs.declared.content.Content.TheVariants as content;
@@ -11,7 +11,7 @@ use crate::rules::rules_at;
 use dns_name::Name;
 use dns_wire::{Content, Message, Record};
 use enum_base::MemoryFault;
-use naptr_data::Offer;
+use naptr_data::{Offer, Rules};
 use std::alloc::Global;
 
 /// What the records say: an alias of the name, its rules, that servers of a zone below have it, or that it has none.
@@ -24,10 +24,17 @@ pub(crate) fn offer_in(alloc: Global, name: &Name, message: &Message) -> Result<
         return Ok(Offer::Alias(target));
     }
     let rules = rules_at(alloc, name, answers)?;
-    if rules.as_slice().is_empty() && is_referral(message.authority.as_slice()) {
+    let authority = message.authority.as_slice();
+    if are_none(&rules) && is_referral(authority) {
         return Ok(Offer::Unserved);
     }
     Ok(Offer::Rules(rules))
+}
+
+fn are_none(rules: &Rules) -> bool
+    ensures { IsTrue result ↔ (rules.now ≡ []) }
+{
+    rules.as_slice().is_empty()
 }
 
 // The target of the first alias of the name.
@@ -65,13 +72,23 @@ fn is_referral(authority: &[Record]) -> bool
 fn has_server(records: &[Record]) -> bool
     ensures { IsTrue result ↔ ((one : Record) × Contains records.now one × ((server : Labels) × (one.content ≡ content.Ns server))) }
 {
-    records.iter().any(|one| tells_server(one))
+    for one in records {
+        if tells_server(one) {
+            return true;
+        }
+    }
+    false
 }
 
 fn has_start(records: &[Record]) -> bool
     ensures { IsTrue result ↔ ((one : Record) × Contains records.now one × ((soa : Soa) × (one.content ≡ content.Soa soa))) }
 {
-    records.iter().any(|one| tells_start(one))
+    for one in records {
+        if tells_start(one) {
+            return true;
+        }
+    }
+    false
 }
 
 fn tells_server(one: &Record) -> bool

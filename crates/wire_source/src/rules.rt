@@ -1,9 +1,10 @@
 //! The rules at a name among records.
-ghost use Rattle.std.specs.Prelude.{◌≡◌, ◌≤◌, ◌↔◌, length, IsPermutation, IsTrue, IfOk, OnOk, MatchOption};
-ghost use Rattle.std.specs.declared.cmp.Ordering.TheVariants.{Less};
+ghost use Rattle.std.specs.Prelude.{◌≡◌, ◌≢◌, ◌≤◌, ◌↔◌, false, length, Contains, IsPermutation, IsTrue, IfOk, OnOk, MatchOption};
+ghost use Rattle.std.specs.declared.cmp.Ordering.TheVariants.{Less, Greater};
 ghost use Rattle.naptr_rule.specs.Rank.{rank_of};
 ghost use Rattle.naptr_rule.specs.Rdata.{IsRule};
 ghost use Rattle.naptr_rule.specs.declared.rule.Naptr.{Naptr};
+ghost use Rattle.naptr_data.specs.Zones.{IsRising};
 ghost use Rattle.wire_source.specs.Readings.{AreRulesAt, IsRuleAt};
 ghost use Rattle.wire_source.specs.Sorting.{AreGiven, IsInOrder, AreOnce};
 
@@ -18,11 +19,7 @@ use std::cmp::Ordering;
 ///
 /// # Errors
 /// Out of memory.
-pub(crate) fn rules_at(
-    alloc: Global,
-    name: &Name,
-    records: &[Record],
-) -> Result<Rules, MemoryFault>
+pub(crate) fn rules_at(alloc: Global, name: &Name, records: &[Record]) -> Result<Rules, MemoryFault>
     ensures rules { IfOk result (AreRulesAt name.now records.now) }
     ensures few { IfOk result (λ rules. length rules ≤ length records.now) }
 {
@@ -80,8 +77,12 @@ fn each_once(alloc: Global, rules: &[Naptr]) -> Result<Rules, MemoryFault>
     Ok(once)
 }
 
-// Whether the rule comes after the last of the others, if there are any.
+// Whether the rule comes after the others, and is not among them.
 fn is_further(before: &[Naptr], rule: &Naptr) -> bool
+    requires rising { IsRising before.now }
+    requires ordered { (one : Naptr) → Contains before.now one → rank_of one rule.now ≢ Greater }
+    ensures after { IsTrue result → (one : Naptr) → Contains before.now one → rank_of one rule.now ≡ Less }
+    ensures among { result ≡ false → Contains before.now rule.now }
 {
     match before.last() {
         Some(last) => comes_after(last, rule),

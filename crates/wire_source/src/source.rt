@@ -1,5 +1,5 @@
 //! A server as a source of rules.
-ghost use Rattle.std.specs.Prelude.{◌≡◌, ∥◌∥₁};
+ghost use Rattle.std.specs.Prelude.{◌≡◌};
 ghost use Rattle.wire_source.specs.Tries.{Keeps};
 
 use crate::tries::{NoOffer, ask};
