@@ -22,7 +22,7 @@ given_push name taken x old r given is = record {
   each = λ rule. (
     λ c. elim (Contains-append_cases old (r ∷ []) rule c) [
       | inl was ↦ let f = (given.each rule).0 was in (f.0, Contains-append_left taken (x ∷ []) f.0 f.1, f.2)
-      | inr new ↦ (x, Contains-append_right taken (x ∷ []) x (Contains-head x []), is.0, is.1 ∙ ap content.Naptr (sym (only_one r rule new)))
+      | inr new ↦ (x, Contains-append_right taken (x ∷ []) x (Contains-head x []), (is.0, is.1 ∙ ap content.Naptr (sym (only_one r rule new))))
     ],
     λ (one, c, at). elim (Contains-append_cases taken (x ∷ []) one c) [
       | inl there ↦ Contains-append_left old (r ∷ []) rule ((given.each rule).1 (one, there, at))

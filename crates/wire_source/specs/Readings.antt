@@ -93,23 +93,23 @@ pub record IsReferral (authority : List Record) : Type 0 where
   pub tells : one.content ≡ content.Ns server
   pub no_start : (other : Record) (soa : Soa) → Contains authority other → other.content ≢ content.Soa soa
 
--- what the records of a reply say of a name: a CNAME comes before all else; then rules; then a referral; else there are no rules
-abbrev pub SayRecords : Labels → Message → Offer → Type 0
-SayRecords name message (offer.Alias target) = IsFirstAlias name message.answers target
-SayRecords name message (offer.Rules rules) =
-    HasNoAlias name message.answers × AreRulesAt name message.answers rules × (rules ≡ [] → ¬ IsReferral message.authority)
-SayRecords name message offer.Unserved =
-    HasNoAlias name message.answers × AreRulesAt name message.answers [] × IsReferral message.authority
+-- what the answers and the authority section of a reply say of a name: a CNAME comes before all else; then rules; then a referral;
+-- else there are no rules
+abbrev pub SayRecords : Labels → List Record → List Record → Offer → Type 0
+SayRecords name answers authority (offer.Alias target) = IsFirstAlias name answers target
+SayRecords name answers authority (offer.Rules rules) =
+    HasNoAlias name answers × AreRulesAt name answers rules × (rules ≡ [] → ¬ IsReferral authority)
+SayRecords name answers authority offer.Unserved = HasNoAlias name answers × AreRulesAt name answers [] × IsReferral authority
 
 -- .. unless the server refuses
-abbrev pub Says : Labels → Message → Offer → Type 0
-Says name message o =
-    Where (rcode_of message.header.bits ≡ refused) (o ≡ offer.Unserved)
-    (¬ IsServerFault (rcode_of message.header.bits) × SayRecords name message o)
+abbrev pub Says : Labels → ℕ → List Record → List Record → Offer → Type 0
+Says name code answers authority o =
+    Where (code ≡ refused) (o ≡ offer.Unserved) (¬ IsServerFault code × SayRecords name answers authority o)
 
 -- how a reply that is taken is read: it was cut short, a fault of the server is told, or it says an offer
 abbrev pub TakenReads : Labels → Message → Reading → Type 0
-TakenReads name message (reading.Says o) = (tc_of message.header.bits ≡ 0) × Says name message o
+TakenReads name message (reading.Says o) = 
+    (tc_of message.header.bits ≡ 0) × Says name (rcode_of message.header.bits) message.answers message.authority o
 TakenReads name message reading.CutShort = tc_of message.header.bits ≡ 1
 TakenReads name message (reading.Faulty (trouble.Server code)) =
     (tc_of message.header.bits ≡ 0) × (rcode_of message.header.bits ≡ code) × IsServerFault code

@@ -16,7 +16,7 @@ use std::alloc::Global;
 
 /// What the records say: an alias of the name, its rules, that servers of a zone below have it, or that it has none.
 pub(crate) fn offer_in(alloc: Global, name: &Name, message: &Message) -> Result<Offer, MemoryFault>
-    ensures said { IfOk result (SayRecords name.now message.now) }
+    ensures said { IfOk result (SayRecords name.now message.now.answers message.now.authority) }
     ensures few { IfOk result HasFewRules }
 {
     let answers = message.answers.as_slice();

@@ -1,7 +1,7 @@
 use Rattle.std.proofs.Common.{◌+◌, take, refl, sym, subst, ◌∙◌}
 use Rattle.std.specs.Prelude.{Contains}
 use Rattle.wire_source.specs.Sorting.{AreOnce}
-use Rattle.wire_source.proofs.SortLemmas.{once_next, once_passed}
+use Rattle.wire_source.proofs.SortLemmas.{once_next, once_passed, order_of_once}
 use Rattle.wire_source.proofs.rules.each_once.Goals.{then-is_further+in_ok-push, else-is_further}
 use Rattle.wire_source.proofs.rules.each_once.Goals as goal
 
@@ -16,3 +16,8 @@ loop-rule-preserved c = elim c.if-is_further.branch [
       (once_passed c.args.rules.now c.loop-rule.rule-index c.rule-item.result c.loop-rule.once c.loop-rule-test.true c.rule-item.is
       c.loop-rule.invariant (subst (λ l. Contains l c.rule-item.result) c.as_slice.ensures (w.if-is_further.ensures.among refl)))
 ]
+
+pub is_further-requires-clause-ordered : goal.is_further-requires-clause-ordered
+is_further-requires-clause-ordered c = λ s k.
+    order_of_once c.args.rules.now c.loop-rule.rule-index c.rule-item.result c.loop-rule.once c.requires c.loop-rule-test.true c.rule-item.is
+    c.loop-rule.invariant s (subst (λ l. Contains l s) c.as_slice.ensures k)
