@@ -84,7 +84,7 @@ query_spelt id name low named = reads_back (query_for id name) (query_is id name
 -- what zones say to it is what they find
 said_to_query : (zones : List Zone) (id : ℕ) (name : Labels) (options : Option Record) (draft : Draft) → id < 2 ^ 16 → IsName name
     → IsDrafted zones (query_bytes id name) options draft → Finds zones (question_for name) draft
-said_to_query zones id name options draft low named (inl (fault, breaks, more)) =
+said_to_query zones id name options draft low named (inl (fault, breaks, none, is)) =
     absurd (not_both (query_bytes id name) (query_for id name) fault (query_spelt id name low named) breaks)
 said_to_query zones id name options draft low named (inr (message, spells, heard, comes)) =
     subst (λ (x : Message). Comes zones (plan_of x) draft)
@@ -222,7 +222,7 @@ short_honest : (zones : List Zone) (name : Labels) (message : Message) (code : �
     → TakenReads name message read → IsHonest zones name read
 short_honest zones name message code (reading.Says o) has (clear, says) = absurd (omega (arith, has.short_is, clear))
 short_honest zones name message code reading.CutShort has short = tt
-short_honest zones name message code (reading.Faulty (trouble.Server rcode)) has (clear, more) = absurd (omega (arith, has.short_is, clear))
+short_honest zones name message code (reading.Faulty (trouble.Server rcode)) has (clear, told_code, fault) = absurd (omega (arith, has.short_is, clear))
 short_honest zones name message code (reading.Faulty trouble.LinkFault) has none = none
 short_honest zones name message code (reading.Faulty (trouble.BadReply fault)) has none = none
 short_honest zones name message code (reading.Faulty trouble.WrongReply) has none = none

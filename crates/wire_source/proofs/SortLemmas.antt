@@ -1,7 +1,7 @@
 -- Rules in their order, each once.
-use Rattle.std.proofs.Common.{◌≡◌, ◌≢◌, inl, inr, is_lt, ℕ, zero, suc, ◌+◌, ◌<◌, ◌≤◌, List, [], ◌∷◌, ◌++◌, length, take, get_or, refl, sym, ap, subst, ◌∙◌, arith, length-append}
-use Rattle.std.specs.Prelude.{Contains, IsPermutation, IfOk, Result, Ok, Err, false}
-use Rattle.std.specs.List.{AllByRecursion}
+use Rattle.std.proofs.Common.{◌≡◌, ◌≢◌, inl, inr, is_lt, ℕ, zero, suc, ◌+◌, ◌<◌, ◌≤◌, List, [], ◌∷◌, ◌++◌, length, take, get_or, refl, sym, ap, subst, ◌∙◌, arith, length-append, ◌-◌, ◌⊎◌}
+use Rattle.std.specs.Prelude.{Contains, IsPermutation, IfOk, Result, Ok, Err, Some, false}
+use Rattle.std.specs.List.{AllByRecursion, slice_get}
 use Rattle.std.specs.List.Sorted.{IsSortedBy}
 use Rattle.std.specs.declared.cmp.Ordering.{Ordering}
 use Rattle.std.specs.declared.cmp.Ordering.TheVariants.{Less, Equal, Greater}
@@ -10,8 +10,9 @@ use Rattle.std.proofs.lemmas.List.Elements.{Contains-append_left, Contains-appen
 use Rattle.std.proofs.lemmas.List.MinMax.{ranks_by}
 use Rattle.std.proofs.lemmas.List.Sorted.{Contains-permutation, IsPermutation-sym, length_permutation, sorted_far}
 use Rattle.naptr_rule.specs.Rank.{rank_of}
+use Rattle.naptr_rule.specs.Rdata.{IsRule}
 use Rattle.naptr_rule.specs.declared.rule.Naptr.{Naptr}
-use Rattle.naptr_rule.proofs.RuleLemmas.{rank_of-total}
+use Rattle.naptr_rule.proofs.RuleLemmas.{rank_of-equal, rank_of-total}
 use Rattle.naptr_data.specs.Zones.{Labels, IsRising}
 use Rattle.naptr_data.proofs.CutLemmas.{Contains-head, Contains-after, Contains-none, head_or_after}
 use Rattle.naptr_data.proofs.RisingLemmas.{turned}
@@ -93,6 +94,52 @@ pub order_of_once : (rules : List Naptr) (i : ℕ) (r : Naptr) (old : List Naptr
     → AreOnce (take i rules) old → (s : Naptr) → Contains old s → rank_of s r ≢ Greater
 order_of_once rules i r old o within here once s c =
     subst (λ (z : Naptr). rank_of s z ≢ Greater) (sym here) (order_before rules i r s o within ((once.each s).0 c))
+
+-- the last of rules that rise
+some_is : (x y : Naptr) → Some x ≡ Some y → x ≡ y
+some_is x y e = cc
+
+at_place : (rules : List Naptr) (i : ℕ) (last : Naptr) → Some last ≡ slice_get rules i → Contains rules last
+at_place [] i last e = absurd (cc)
+at_place (x ∷ rules) zero last e = subst (Contains (x ∷ rules)) (sym (some_is last x e)) (Contains-head x rules)
+at_place (x ∷ rules) (suc i) last e = Contains-after x rules last (at_place rules i last e)
+
+at_end : (rules : List Naptr) (i : ℕ) (last : Naptr) → Some last ≡ slice_get rules i → i + 1 ≡ length rules → IsRising rules → (s : Naptr) → Contains rules s
+    → (s ≡ last) ⊎ (rank_of s last ≡ Less)
+at_end [] i last e end r s c = absurd (cc)
+at_end (x ∷ rules) zero last e end r s c = elim (head_or_after x rules s c) [
+  | inl here ↦ inl (here ∙ sym (some_is last x e))
+  | inr (k, within, is) ↦ absurd (omega (arith, end, within))
+]
+at_end (x ∷ rules) (suc i) last e end r s c = elim (head_or_after x rules s c) [
+  | inl here ↦ inr (subst (λ (y : Naptr). rank_of y last ≡ Less) (sym here)
+      (AllByRecursion-contains (λ next. rank_of x next ≡ Less) rules last r.0 (at_place rules i last e)))
+  | inr after ↦ at_end rules i last e (omega (arith, end)) r.1 s after
+]
+
+some_place : (rules : List Naptr) (last : Naptr) → Some last ≡ slice_get rules (length rules - 1) → length rules - 1 + 1 ≡ length rules
+some_place [] last e = absurd (cc)
+some_place (x ∷ rules) last e = omega arith
+
+-- a rule that comes after the last comes after all
+pub after_all : (rules : List Naptr) (last rule : Naptr) → Some last ≡ slice_get rules (length rules - 1) → IsRising rules → rank_of last rule ≡ Less
+    → (s : Naptr) → Contains rules s → rank_of s rule ≡ Less
+after_all rules last rule e r less s c = elim (at_end rules (length rules - 1) last e (some_place rules last e) r s c) [
+  | inl same ↦ subst (λ (y : Naptr). rank_of y rule ≡ Less) (sym same) less
+  | inr before ↦ rank_of-total.trans s last rule before less
+]
+
+-- one that does not is the last
+by_order : (o : Ordering) → o ≢ Less → o ≢ Greater → o ≡ Equal
+by_order Less not_less not_greater = absurd (not_less refl)
+by_order Equal not_less not_greater = refl
+by_order Greater not_less not_greater = absurd (not_greater refl)
+
+pub among_all : (rules : List Naptr) (last rule : Naptr) → Some last ≡ slice_get rules (length rules - 1) → IsRule last → IsRule rule
+    → ((s : Naptr) → Contains rules s → rank_of s rule ≢ Greater) → rank_of last rule ≢ Less → Contains rules rule
+among_all rules last rule e p q order not =
+    let c = at_place rules (length rules - 1) last e in
+    subst (Contains rules) (rank_of-equal last rule p q (by_order (rank_of last rule) not (order last c))) c
 
 -- sorted rules are in order
 abbrev IsFar : List Naptr → Type 0

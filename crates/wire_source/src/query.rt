@@ -1,6 +1,7 @@
 //! Queries for the rules at a name.
 ghost use Rattle.std.specs.Prelude.{◌≡◌, ◌≤◌, ◌+◌, ◌++◌, length};
 ghost use Rattle.std.specs.Int.{w16, to_be_bytes};
+ghost use Rattle.dns_name.specs.Name.{IsName};
 ghost use Rattle.wire_source.specs.Queries.{query_bytes};
 
 use dns_name::Name;
@@ -15,7 +16,8 @@ const RD: u16 = 0x0100;
 
 /// The query of that number for the rules at a name. Takes no memory.
 pub(crate) fn query_for(id: u16, name: &Name) -> Query
-    ensures { result ≡ query_bytes id name.now }
+    ensures bytes { result ≡ query_bytes id name.now }
+    ensures name { IsName name.now }
 {
     let mut query = Query::new();
     push_number(&mut query, id);

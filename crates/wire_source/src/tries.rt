@@ -5,7 +5,6 @@ ghost use Rattle.wire_source.specs.Tries.{Asks, ComesTo, Ends, end_of};
 ghost use Rattle.wire_source.specs.declared.reading.Reading.TheVariants as reading;
 ghost use Rattle.wire_source.specs.declared.trouble.Trouble.{Trouble as Troubles};
 
-use crate::laws::honest_replies_are_offers;
 use crate::query::query_for;
 use crate::reading::{Reading, read_reply};
 use crate::trouble::Trouble;
@@ -119,10 +118,10 @@ fn try_once<L: Link>(
         (λ last. ComesTo 1 last name.now (L.state link.old) (L.state link.new) result) }
     ensures way { (L.state link.new).way ≡ way }
 {
-    honest_replies_are_offers();
     let number = *id;
     *id = number.wrapping_add(1);
-    match link.exchange(way, query_for(number, name).as_slice()) {
+    let query = query_for(number, name);
+    match link.exchange(way, query.as_slice()) {
         Ok(()) => read_reply(alloc, number, name, way, link.held()),
         Err(Failed) => Ok(Reading::Faulty(Trouble::LinkFault)),
     }

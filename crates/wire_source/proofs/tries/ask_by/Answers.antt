@@ -1,0 +1,3 @@
+use Rattle.wire_source.proofs.TryLemmas.{again, both_ways, enough, settled}
+use Rattle.wire_source.proofs.tries.ask_by.Goals as goal
+
