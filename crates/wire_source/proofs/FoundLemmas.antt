@@ -80,9 +80,9 @@ set_has records owner kind set one is c here =
     elim (Contains-append_cases is.before (set ++ is.after) one (subst (λ l. Contains l one) is.parts c)) [
       | inl before ↦ absurd (AllByRecursion-contains (λ (x : Record). ¬ IsIn owner kind x) is.before one is.none_before before here)
       | inr rest ↦ elim (Contains-append_cases set is.after one rest) [
-          | inl there ↦ there
-          | inr after ↦ absurd (AllByRecursion-contains (λ (x : Record). ¬ IsIn owner kind x) is.after one is.none_after after here)
-        ]
+        | inl there ↦ there
+        | inr after ↦ absurd (AllByRecursion-contains (λ (x : Record). ¬ IsIn owner kind x) is.after one is.none_after after here)
+      ]
     ]
 
 -- the servers of a cut are a referral
@@ -258,10 +258,10 @@ found_reads zones name seen (found.Set set) added o are (zone, source, kind, ser
     let thirty_five = asked_kind kind answered.answers in
     set_reads name set.now [] first o (set_has zone.records source kind set.now first one c here)
     (λ x d.
-        let k = in_set zone.records source kind set.now x one d in
-        rule_content x.content
-        (sym (kind_of_record zone x valid k) ∙ (AllByRecursion-contains (IsIn source kind) set.now x one.each d).1 ∙ thirty_five)
-        (valid.plain x k).whole)
+    let k = in_set zone.records source kind set.now x one d in
+    rule_content x.content
+    (sym (kind_of_record zone x valid k) ∙ (AllByRecursion-contains (IsIn source kind) set.now x one.each d).1 ∙ thirty_five)
+    (valid.plain x k).whole)
     (records_said name 0 (owned_by name set.now) [] o (inl refl) said)
 found_reads zones name seen (found.NoSet start) added o are is (told, n, e) says =
     let said = subst (λ (x : Added). Says name (x.code % 16) x.answers x.authority o) e says in

@@ -7,6 +7,7 @@ use Rattle.naptr_data.specs.declared.offer.Offer.{Offer}
 use Rattle.naptr_data.specs.declared.offer.Offer.TheVariants as offer
 use Rattle.naptr_data.proofs.CutLemmas.{Contains-middle, two_cuts}
 use Rattle.naptr_data.proofs.RisingLemmas.{rising_same}
+use Rattle.dns_wire.specs.Message.{Spells}
 use Rattle.dns_wire.specs.declared.content.Content.TheVariants as content
 use Rattle.dns_wire.specs.declared.message.Message.{Message}
 use Rattle.dns_wire.specs.declared.record.Record.{Record}

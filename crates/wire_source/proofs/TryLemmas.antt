@@ -1,11 +1,15 @@
 -- Tries, one after another.
-use Rattle.std.proofs.Common.{◌≡◌, ◌≢◌, ◌↔◌, ◌⊎◌, inl, inr, ℕ, zero, suc, ◌+◌, ◌-◌, ◌*◌, ◌%◌, ◌^◌, ◌<◌, ◌≤◌, min, List, Result, Ok, Err, refl, sym, ap, subst, ◌∙◌, arith}
-use Rattle.std.specs.Prelude.{IfOk, OnOk, OnErr, Option, Some, None}
+use Rattle.std.proofs.Common.{◌≡◌, ◌≢◌, ◌↔◌, ◌⊎◌, inl, inr, ℕ, zero, suc, ◌+◌, ◌-◌, ◌*◌, ◌%◌, ◌^◌, ◌<◌, ◌≤◌, min, List, [], ◌∷◌, Result, Ok, Err, refl, sym, ap, subst, ◌∙◌, arith}
+use Rattle.std.specs.Prelude.{IfOk, Option, Some, None, Bool, true, false, not, is_some, option_map}
 use Rattle.enum_base.specs.Causes.{Rose, many_more, one_more}
 use Rattle.enum_base.specs.Outside.{WhereTold}
 use Rattle.enum_base.specs.declared.fault.MemoryFault.{MemoryFault}
 use Rattle.dns_name.specs.Name.{IsName}
+use Rattle.naptr_data.specs.Sources.{HasFewRules, HasTrouble, KeepsNames, RuleSourceState}
 use Rattle.naptr_data.specs.Zones.{Labels, IsOffer}
+use Rattle.naptr_data.proofs.CutLemmas.{Contains-none}
+use Rattle.naptr_data.specs.declared.offer.Offer.{Offer}
+use Rattle.std.proofs.Math.Logic.{∥∥₁_map}
 use Rattle.zone_build.specs.Plain.{told}
 use Rattle.zone_build.specs.Zone.{Zone}
 use Rattle.zone_db.specs.Bits.{header_of, tc_of}
@@ -17,12 +21,26 @@ use Rattle.zone_db.specs.declared.way.Way.TheVariants.{Stream}
 use Rattle.wire_source.specs.Laws.{IsHonest}
 use Rattle.wire_source.specs.Queries.{query_bytes}
 use Rattle.wire_source.specs.Readings.{IsRead, MessageReads, TakenReads}
-use Rattle.wire_source.specs.Tries.{Asks, ComesTo, Ends, HasFailed, HasFewRead, IsAnswered, end_of}
+use Rattle.wire_source.specs.Tries.{Asks, ComesTo, Ends, HasFailed, HasFewRead, IsAnswered, Keeps, WasTrouble, answer_of, end_of, trouble_of, troubles_with}
+use Rattle.zone_db.specs.declared.link.Counts.{Counts}
+use Rattle.wire_source.specs.declared.tries.NoOffer.{NoOffer}
+use Rattle.wire_source.specs.declared.tries.NoOffer.TheVariants as no_offer
 use Rattle.wire_source.specs.declared.reading.Reading.{Reading}
 use Rattle.wire_source.specs.declared.reading.Reading.TheVariants as reading
 use Rattle.wire_source.specs.declared.trouble.Trouble.{Trouble}
 use Rattle.wire_source.specs.declared.trouble.Trouble.TheVariants as trouble
 use Rattle.wire_source.proofs.HonestLemmas.{honest}
+
+pub was_true : (b : Bool) → not b ≡ false → b ≡ true
+was_true true e = refl
+was_true false e = absurd (cc)
+
+pub was_false : (b : Bool) → not b ≡ true → b ≡ false
+was_false true e = absurd (cc)
+was_false false e = refl
+
+some_is : (x y : Trouble) → Some x ≡ Some y → x ≡ y
+some_is x y e = cc
 
 -- facts of what is told
 both_told : {A : Type 0} (o o' : Option A) (P Q R : A → Type 0) → o' ≡ o → ((a : A) → P a → Q a → R a) → WhereTold o P → WhereTold o' Q → WhereTold o R
@@ -94,12 +112,13 @@ tried_err id name s s' one recent rose = record {
 }
 
 -- one exchange, whatever it came to
-pub asked_once : (id id' : ℕ) (name : Labels) (s s' : LinkState) (Came : ℕ → Type 0) → id < 2 ^ 16 → id' ≡ (id + 1) % 2 ^ 16
+pub asked_once : (id id' : ℕ) (name : Labels) (s s' : LinkState) (Came : ℕ → Type 0) → id < 2 ^ 16 → IsName name → id' ≡ (id + 1) % 2 ^ 16
     → s'.exchanges ≡ one_more s.exchanges → s'.query ≡ query_bytes id name → s'.zones ≡ s.zones → s.faults ≤ s'.faults → Came id
     → Asks 1 1 name id id' s s' Came
-asked_once id id' name s s' Came low next one query zones faults came =
+asked_once id id' name s s' Came low named next one query zones faults came =
     let same : id ≡ (id + (1 - 1)) % 2 ^ 16 = omega (arith, low) in
     record {
+      named = named;
       count = 1;
       some = omega arith;
       few = omega arith;
@@ -153,6 +172,7 @@ again n name id id' id'' s s' s'' t r one two =
     let same = last_number id id' one.count two.count one.numbers two.some in
     let came = comes_more n ((id + (one.count - 1)) % 2 ^ 16) ((id' + (two.count - 1)) % 2 ^ 16) name s s' s'' t r one.zones one.faults one.came two.came in
     record {
+      named = one.named;
       count = one.count + two.count;
       some = let a = one.some in omega (arith, a);
       few = let a = one.few in let b = two.few in omega (arith, a, b);
@@ -165,9 +185,9 @@ again n name id id' id'' s s' s'' t r one two =
           both_told s.zones s.zones (λ zones. (t ≡ trouble.LinkFault) × (min 3 (s.recent + 1) ≤ s'.recent)) (λ zones. Calm one.count 1 s s')
           (λ zones. Calm (one.count + two.count) 1 s s'') refl
           (λ zones (e, a) calm same_faults low.
-              let rose = one.came.blamed e in
-              let later = two.faults in
-              absurd (omega (arith, rose, later, same_faults, low))) one.came.told one.calm;
+          let rose = one.came.blamed e in
+          let later = two.faults in
+          absurd (omega (arith, rose, later, same_faults, low))) one.came.told one.calm;
       came = subst (λ k. ComesTo (1 + n) k name s s'' r) same came;
     }
 
@@ -182,6 +202,7 @@ comes_enough n last name s s' (Err memory) not came = tt
 pub enough : (n : ℕ) (name : Labels) (id id' : ℕ) (s s' : LinkState) (r : Result Reading MemoryFault) → 1 ≤ n → ((t : Trouble) → r ≢ Ok (reading.Faulty t))
     → Asks 1 1 name id id' s s' (λ last. ComesTo 1 last name s s' r) → Asks n 1 name id id' s s' (λ last. ComesTo n last name s s' r)
 enough n name id id' s s' r least not one = record {
+  named = one.named;
   count = one.count;
   some = one.some;
   few = let a = one.few in omega (arith, a, least);
@@ -205,6 +226,7 @@ ends last name s s' (Err memory) not came = tt
 pub settled : (name : Labels) (id id' : ℕ) (s s' : LinkState) (r : Result Reading MemoryFault) → r ≢ Ok reading.CutShort
     → Asks 3 1 name id id' s s' (λ last. ComesTo 3 last name s s' r) → Asks 6 2 name id id' s s' (λ last. Ends last name s s' (end_of r))
 settled name id id' s s' r not one = record {
+  named = one.named;
   count = one.count;
   some = one.some;
   few = let a = one.few in omega (arith, a);
@@ -248,6 +270,7 @@ both_ways name id id' id'' s s' s'' r one stream two =
     let rose : many_more s.exchanges 1 ≤ s'.exchanges = let a = one.exchanges in let b = one.some in omega (arith, a, b) in
     let came = ends_later ((id' + (two.count - 1)) % 2 ^ 16) name s s' s'' r one.zones one.faults rose stream two.came in
     record {
+      named = one.named;
       count = one.count + two.count;
       some = let a = one.some in omega (arith, a);
       few = let a = one.few in let b = two.few in omega (arith, a, b);
@@ -260,10 +283,84 @@ both_ways name id id' id'' s s' s'' r one stream two =
           both_told s.zones s'.zones (λ zones. Calm one.count 1 s s') (λ zones. Calm two.count 1 s' s'')
           (λ zones. Calm (one.count + two.count) 2 s s'') one.zones
           (λ zones c d e l.
-              let a = one.faults in
-              let b = two.faults in
-              let m = c (omega (arith, a, b, e)) (omega (arith, a, b, e, l)) in
-              let k = d (omega (arith, a, b, e)) l in
-              omega (arith, m, k)) one.calm two.calm;
+          let a = one.faults in
+          let b = two.faults in
+          let m = c (omega (arith, a, b, e)) (omega (arith, a, b, e, l)) in
+          let k = d (omega (arith, a, b, e)) l in
+          omega (arith, m, k)) one.calm two.calm;
       came = subst (λ k. Ends k name s s'' (end_of r)) same came;
     }
+
+-- what a source keeps after one more ask
+kept_trouble : (before : Counts) (s s' : LinkState) (name : Labels) (id id' asks : ℕ) (last : Option Trouble) (r : Result Offer NoOffer) → Keeps before s asks last
+    → Asks 6 2 name id id' s s' (λ number. Ends number name s s' r) → (t : Trouble) → trouble_of r ≡ Some t → WasTrouble before s' t
+kept_trouble before s s' name id id' asks last (Ok o) keeps one t is = absurd cc
+kept_trouble before s s' name id id' asks last (Err no_offer.Memory) keeps one t is = absurd cc
+kept_trouble before s s' name id id' asks last (Err (no_offer.Failed u)) keeps one t is =
+    subst (WasTrouble before s') (some_is u t is) (record {
+      id = (id + (one.count - 1)) % 2 ^ 16;
+      name = name;
+      number = omega arith;
+      named = one.named;
+      query = one.query;
+      rose = let a = keeps.rose in let b = one.came.rose in omega (arith, a, b);
+      fault = one.came.fault;
+      read = one.came.read;
+      told = subst (λ z. WhereTold z (λ zones. (u ≡ trouble.LinkFault) × (3 ≤ s'.recent))) (sym one.zones)
+          (both_told s.zones s.zones (λ zones. (u ≡ trouble.LinkFault) × (min 3 (s.recent + 3) ≤ s'.recent))
+          (λ zones. (u ≡ trouble.LinkFault) × (min 3 (s.recent + 3) ≤ s'.recent)) (λ zones. (u ≡ trouble.LinkFault) × (3 ≤ s'.recent)) refl
+          (λ zones (e, a) b. (e, omega (arith, a))) one.came.told one.came.told);
+    })
+
+keeps_more : (before : Counts) (s s' : LinkState) (name : Labels) (id id' asks : ℕ) (last : Option Trouble) (r : Result Offer NoOffer) → Keeps before s asks last
+    → Asks 6 2 name id id' s s' (λ number. Ends number name s s' r) → Keeps before s' (one_more asks) (trouble_of r)
+keeps_more before s s' name id id' asks last r keeps one = record {
+  rose = let a = keeps.rose in let b = one.exchanges in let c = one.some in omega (arith, a, b, c);
+  faults = let a = keeps.faults in let b = one.faults in omega (arith, a, b);
+  calm =
+      subst (λ z. WhereTold z (λ zones. s'.faults ≡ before.faults → s'.faults < 2 ^ 64 - 1 → s'.exchanges ≤ before.exchanges + 2 * one_more asks)) (sym one.zones)
+      (both_told s.zones s.zones
+      (λ zones. s.faults ≡ before.faults → s.faults < 2 ^ 64 - 1 → s.exchanges ≤ before.exchanges + 2 * asks) (λ zones. Calm one.count 2 s s')
+      (λ zones. s'.faults ≡ before.faults → s'.faults < 2 ^ 64 - 1 → s'.exchanges ≤ before.exchanges + 2 * one_more asks) refl
+      (λ zones c d e l.
+      let a = keeps.faults in
+      let b = one.faults in
+      let x = one.exchanges in
+      let m = c (omega (arith, a, b, e)) (omega (arith, a, b, e, l)) in
+      let k = d (omega (arith, a, b, e)) l in
+      omega (arith, x, m, k)) keeps.calm one.calm);
+  trouble = kept_trouble before s s' name id id' asks last r keeps one;
+}
+
+pub keeps_next : (before : Counts) (s s' : LinkState) (name : Labels) (id id' asks : ℕ) (last : Option Trouble) (r : Result Offer NoOffer)
+    → ∥ Keeps before s asks last ∥₁ → Asks 6 2 name id id' s s' (λ number. Ends number name s s' r)
+    → ∥ Keeps before s' (one_more asks) (trouble_of r) ∥₁
+keeps_next before s s' name id id' asks last r keeps one = ∥∥₁_map keeps (λ k. keeps_more before s s' name id id' asks last r k one)
+
+-- what a source answers
+told_offer : (zones : Option (List Zone)) (name : Labels) (o : Offer) → WhereTold zones (λ zones. IsOffer (told zones) name o)
+    → WhereTold (option_map told zones) (λ zones. IsOffer zones name o)
+told_offer None name o is = tt
+told_offer (Some zones) name o is = is
+
+pub offers : (last : ℕ) (name : Labels) (s s' : LinkState) (r : Result Offer NoOffer) → Ends last name s s' r
+    → IfOk (answer_of r) (λ o. WhereTold (option_map told s.zones) (λ zones. IsOffer zones name o))
+offers last name s s' (Ok o) came = told_offer s.zones name o came.told
+offers last name s s' (Err (no_offer.Failed t)) came = tt
+offers last name s s' (Err no_offer.Memory) came = tt
+
+pub few_rules : (last : ℕ) (name : Labels) (s s' : LinkState) (r : Result Offer NoOffer) → Ends last name s s' r → IfOk (answer_of r) HasFewRules
+few_rules last name s s' (Ok o) came = came.few
+few_rules last name s s' (Err (no_offer.Failed t)) came = tt
+few_rules last name s s' (Err no_offer.Memory) came = tt
+
+pub source_trouble : (old new : RuleSourceState) (r : Result Offer NoOffer) → new.troubles ≡ troubles_with old.troubles (trouble_of r)
+    → new.failed ≡ is_some (trouble_of r) → old.troubles ≤ 2 ^ 64 - 1 → HasTrouble old new (answer_of r)
+source_trouble old new (Ok o) is failed low = record { later = omega (arith, is); rose = λ e. absurd cc; failed = λ e. absurd cc }
+source_trouble old new (Err (no_offer.Failed t)) is failed low = record { later = omega (arith, is, low); rose = λ e. omega (arith, is); failed = λ e. failed }
+source_trouble old new (Err no_offer.Memory) is failed low = record { later = omega (arith, is); rose = λ e. absurd cc; failed = λ e. absurd cc }
+
+pub keeps_none : (name : Labels) (r : Result Offer NoOffer) → KeepsNames 0 name [] [] (answer_of r)
+keeps_none name (Ok o) = (name ∷ [], inr (Contains-none name, refl), refl)
+keeps_none name (Err (no_offer.Failed t)) = inl refl
+keeps_none name (Err no_offer.Memory) = inl refl

@@ -108,7 +108,7 @@ Says name code answers authority o =
 
 -- how a reply that is taken is read: it was cut short, a fault of the server is told, or it says an offer
 abbrev pub TakenReads : Labels → Message → Reading → Type 0
-TakenReads name message (reading.Says o) = 
+TakenReads name message (reading.Says o) =
     (tc_of message.header.bits ≡ 0) × Says name (rcode_of message.header.bits) message.answers message.authority o
 TakenReads name message reading.CutShort = tc_of message.header.bits ≡ 1
 TakenReads name message (reading.Faulty (trouble.Server code)) =

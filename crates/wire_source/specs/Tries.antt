@@ -1,12 +1,14 @@
 -- Tries of a question over a link (this project's own).
-use Rattle.std.specs.Prelude.{◌≡◌, ◌≢◌, ◌↔◌, ℕ, ◌+◌, ◌-◌, ◌*◌, ◌%◌, ◌^◌, ◌<◌, ◌≤◌, min, Option, Some, Result, Ok, Err, ⊤}
-use Rattle.enum_base.specs.Causes.{Rose, many_more}
+use Rattle.std.specs.Prelude.{◌≡◌, ◌≢◌, ◌↔◌, ℕ, ◌+◌, ◌-◌, ◌*◌, ◌%◌, ◌^◌, ◌<◌, ◌≤◌, min, Option, Some, None, Result, Ok, Err, ⊤}
+use Rattle.enum_base.specs.Causes.{Rose, many_more, one_more}
 use Rattle.enum_base.specs.Outside.{WhereTold}
 use Rattle.enum_base.specs.declared.fault.MemoryFault.{MemoryFault}
 use Rattle.dns_name.specs.Name.{IsName}
 use Rattle.naptr_data.specs.Sources.{HasFewRules}
 use Rattle.naptr_data.specs.Zones.{Labels, IsOffer}
 use Rattle.naptr_data.specs.declared.offer.Offer.{Offer}
+use Rattle.naptr_data.specs.declared.source.SourceFault.{SourceFault}
+use Rattle.naptr_data.specs.declared.source.SourceFault.TheVariants as fault
 use Rattle.zone_build.specs.Plain.{told}
 use Rattle.zone_db.specs.Links.{LinkState}
 use Rattle.zone_db.specs.declared.link.Counts.{Counts}
@@ -29,6 +31,7 @@ HasFewRead (reading.Faulty t) = ⊤
 -- some exchanges were begun for the rules at a name, at most so many: each query has the next number, and over zones that are told
 -- there are at most so many of them if none failed. `Came` says what they came to, by the number of the last query
 pub record Asks (most most_calm : ℕ) (name : Labels) (id id' : ℕ) (old new : LinkState) (Came : ℕ → Type 0) : Type 0 where
+  pub named : IsName name
   pub count : ℕ
   pub some : 0 < count
   pub few : count ≤ most
@@ -76,6 +79,23 @@ abbrev pub Ends : ℕ → Labels → LinkState → LinkState → Result Offer No
 Ends id name old new (Ok o) = IsAnswered id name old new o
 Ends id name old new (Err (no_offer.Failed t)) = HasFailed 3 id name old new t
 Ends id name old new (Err no_offer.Memory) = ⊤
+
+-- the trouble that an end is
+abbrev pub trouble_of : Result Offer NoOffer → Option Trouble
+trouble_of (Ok o) = None
+trouble_of (Err (no_offer.Failed t)) = Some t
+trouble_of (Err no_offer.Memory) = None
+
+-- how often there was trouble, with one more where there is some
+abbrev pub troubles_with : ℕ → Option Trouble → ℕ
+troubles_with count None = count
+troubles_with count (Some t) = one_more count
+
+-- an end, as a source tells it
+abbrev pub answer_of : Result Offer NoOffer → Result Offer SourceFault
+answer_of (Ok o) = Ok o
+answer_of (Err (no_offer.Failed t)) = Err fault.Trouble
+answer_of (Err no_offer.Memory) = Err fault.Memory
 
 -- the trouble of the last offer, of which a link still tells: three tries of one way failed since these counts
 pub record WasTrouble (before : Counts) (now : LinkState) (trouble : Trouble) : Type 0 where

@@ -1,5 +1,5 @@
 //! Queries for the rules at a name.
-ghost use Rattle.std.specs.Prelude.{◌≡◌, ◌≤◌, ◌+◌, ◌++◌, length};
+ghost use Rattle.std.specs.Prelude.{◌≡◌, ◌<◌, ◌≤◌, ◌+◌, ◌^◌, ◌++◌, length};
 ghost use Rattle.std.specs.Int.{w16, to_be_bytes};
 ghost use Rattle.dns_name.specs.Name.{IsName};
 ghost use Rattle.wire_source.specs.Queries.{query_bytes};
@@ -18,6 +18,7 @@ const RD: u16 = 0x0100;
 pub(crate) fn query_for(id: u16, name: &Name) -> Query
     ensures bytes { result ≡ query_bytes id name.now }
     ensures name { IsName name.now }
+    ensures number { id < 2 ^ 16 }
 {
     let mut query = Query::new();
     push_number(&mut query, id);

@@ -2,7 +2,7 @@
 ghost use Rattle.std.specs.Prelude.{◌≡◌};
 ghost use Rattle.wire_source.specs.Tries.{Keeps};
 
-use crate::tries::{NoOffer, ask};
+use crate::tries::{answer_of, ask, trouble_of, troubles_with};
 use crate::trouble::Trouble;
 use dns_name::Name;
 use naptr_data::{Offer, RuleSource, SourceFault};
@@ -69,19 +69,13 @@ impl<L: Link> RuleSource for WireSource<'_, L> {
     } };
 
     fn offer(&mut self, alloc: Global, name: &Name) -> Result<Offer, SourceFault> {
-        self.trouble = None;
         // The type of the link keeps that zones which it tells are a set.
         let _counts = self.link.counts();
+        self.trouble = None;
         let asked = ask(alloc, self.link, &mut self.id, name);
         self.asks = self.asks.saturating_add(1);
-        match asked {
-            Ok(offer) => Ok(offer),
-            Err(NoOffer::Memory) => Err(SourceFault::Memory),
-            Err(NoOffer::Failed(trouble)) => {
-                self.troubles = self.troubles.saturating_add(1);
-                self.trouble = Some(trouble);
-                Err(SourceFault::Trouble)
-            }
-        }
+        self.trouble = trouble_of(&asked);
+        self.troubles = troubles_with(self.troubles, self.trouble);
+        answer_of(asked)
     }
 }

@@ -1,7 +1,7 @@
 //! Tries of a question: three of a way, and two ways.
 ghost use Rattle.std.specs.Prelude.{◌≡◌, ◌↔◌, Ok, IsTrue};
 ghost use Rattle.zone_db.specs.Links.{TellsSet};
-ghost use Rattle.wire_source.specs.Tries.{Asks, ComesTo, Ends, end_of};
+ghost use Rattle.wire_source.specs.Tries.{Asks, ComesTo, Ends, answer_of, end_of, trouble_of, troubles_with};
 ghost use Rattle.wire_source.specs.declared.reading.Reading.TheVariants as reading;
 ghost use Rattle.wire_source.specs.declared.trouble.Trouble.{Trouble as Troubles};
 
@@ -10,7 +10,7 @@ use crate::reading::{Reading, read_reply};
 use crate::trouble::Trouble;
 use dns_name::Name;
 use enum_base::{Failed, MemoryFault};
-use naptr_data::Offer;
+use naptr_data::{Offer, SourceFault};
 use std::alloc::Global;
 use zone_db::{Link, Way};
 
@@ -56,6 +56,37 @@ fn end_of(read: Result<Reading, MemoryFault>) -> Result<Offer, NoOffer>
         Ok(Reading::CutShort) => Err(NoOffer::Failed(Trouble::WrongReply)),
         Ok(Reading::Faulty(trouble)) => Err(NoOffer::Failed(trouble)),
         Err(_) => Err(NoOffer::Memory),
+    }
+}
+
+/// What was wrong with the last try, if there is trouble.
+pub(crate) fn trouble_of(end: &Result<Offer, NoOffer>) -> Option<Trouble>
+    ensures { result ≡ trouble_of end.now }
+{
+    match end {
+        Err(NoOffer::Failed(trouble)) => Some(*trouble),
+        _ => None,
+    }
+}
+
+/// The count of troubles, with one more where there is trouble.
+pub(crate) fn troubles_with(count: u64, trouble: Option<Trouble>) -> u64
+    ensures { result ≡ troubles_with count trouble }
+{
+    match trouble {
+        Some(_) => count.saturating_add(1),
+        None => count,
+    }
+}
+
+/// The end of all tries, as a source tells it.
+pub(crate) fn answer_of(end: Result<Offer, NoOffer>) -> Result<Offer, SourceFault>
+    ensures { result ≡ answer_of end }
+{
+    match end {
+        Ok(offer) => Ok(offer),
+        Err(NoOffer::Failed(_)) => Err(SourceFault::Trouble),
+        Err(NoOffer::Memory) => Err(SourceFault::Memory),
     }
 }
 

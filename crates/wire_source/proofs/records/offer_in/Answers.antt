@@ -7,7 +7,7 @@ pub returns-then-is_referral-clause-said : goal.returns-then-is_referral-clause-
 returns-then-is_referral-clause-said c = (
   subst (HasNoAlias c.args.name.now) c.as_slice-answers.ensures c.in_default.ensures,
   subst (AreRulesAt c.args.name.now c.args.message.now.answers) (c.if-are_none.ensures.0 refl)
-  (subst (λ l. AreRulesAt c.args.name.now l c.in_ok-rules.rules) c.as_slice-answers.ensures c.in_ok-rules.ensures.rules),
+      (subst (λ l. AreRulesAt c.args.name.now l c.in_ok-rules.rules) c.as_slice-answers.ensures c.in_ok-rules.ensures.rules),
   subst IsReferral c.as_slice-authority.ensures (c.if-is_referral.ensures.0 refl),
 )
 
