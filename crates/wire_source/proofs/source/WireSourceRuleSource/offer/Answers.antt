@@ -1,7 +1,7 @@
 use Rattle.std.proofs.Common.{◌≡◌, ℕ, [], sym, subst}
 use Rattle.dns_name.specs.Name.{folded_labels}
 use Rattle.naptr_data.specs.Sources.{KeepsNames}
-use Rattle.wire_source.specs.Tries.{Keeps}
+use Rattle.wire_source.specs.Tries.{Keeps, trouble_of}
 use Rattle.wire_source.proofs.TryLemmas.{keeps_next, keeps_none}
 use Rattle.wire_source.proofs.source.WireSourceRuleSource.offer.Goals as goal
 
@@ -12,7 +12,7 @@ invariant_of-self g c =
     let self = c.args.self.now in
     record {
       keeps = subst (λ t. ∥ Keeps self.before s' c.saturating_add-self.result t ∥₁) (sym c.trouble_of-self.ensures)
-          (subst (λ (n : ℕ). ∥ Keeps self.before s' n _ ∥₁) (sym c.saturating_add-self.ensures)
+          (subst (λ (n : ℕ). ∥ Keeps self.before s' n (trouble_of c.ask-asked.result) ∥₁) (sym c.saturating_add-self.ensures)
           (keeps_next self.before s s' c.args.name.now self.id c.ask-asked.new.id self.asks self.trouble c.ask-asked.result self.keeps c.ask-asked.ensures));
     }
 
