@@ -7,6 +7,7 @@ use Rattle.enum_base.specs.declared.fault.MemoryFault.{MemoryFault}
 use Rattle.dns_name.specs.Name.{IsName}
 use Rattle.naptr_data.specs.Sources.{HasFewRules, HasTrouble, KeepsNames, RuleSourceState}
 use Rattle.naptr_data.specs.Zones.{Labels, IsOffer}
+use Rattle.naptr_data.specs.declared.source.SourceFault.{SourceFault}
 use Rattle.naptr_data.proofs.CutLemmas.{Contains-none}
 use Rattle.naptr_data.specs.declared.offer.Offer.{Offer}
 use Rattle.std.proofs.Math.Logic.{∥∥₁_map}
@@ -21,7 +22,7 @@ use Rattle.zone_db.specs.declared.way.Way.TheVariants.{Stream}
 use Rattle.wire_source.specs.Laws.{IsHonest}
 use Rattle.wire_source.specs.Queries.{query_bytes}
 use Rattle.wire_source.specs.Readings.{IsRead, MessageReads, TakenReads}
-use Rattle.wire_source.specs.Tries.{Asks, ComesTo, Ends, HasFailed, HasFewRead, IsAnswered, Keeps, WasTrouble, answer_of, end_of, trouble_of, troubles_with}
+use Rattle.wire_source.specs.Tries.{Answers, Asks, ComesTo, Ends, HasFailed, HasFewRead, IsAnswered, Keeps, WasTrouble, answer_of, end_of, trouble_of, troubles_with}
 use Rattle.zone_db.specs.declared.link.Counts.{Counts}
 use Rattle.wire_source.specs.declared.tries.NoOffer.{NoOffer}
 use Rattle.wire_source.specs.declared.tries.NoOffer.TheVariants as no_offer
@@ -364,3 +365,29 @@ pub keeps_none : (name : Labels) (r : Result Offer NoOffer) → KeepsNames 0 nam
 keeps_none name (Ok o) = (name ∷ [], inr (Contains-none name, refl), refl)
 keeps_none name (Err (no_offer.Failed t)) = inl refl
 keeps_none name (Err no_offer.Memory) = inl refl
+
+answers : (last : ℕ) (name : Labels) (s s' : LinkState) (r : Result Offer NoOffer) → Ends last name s s' r
+    → Answers last name s s' (trouble_of r) (answer_of r)
+answers last name s s' (Ok o) came = (refl, came)
+answers last name s s' (Err (no_offer.Failed t)) came = (t, refl, came)
+answers last name s s' (Err no_offer.Memory) came = refl
+
+pub answered : (name : Labels) (id id' : ℕ) (s s' : LinkState) (r : Result Offer NoOffer) (t : Option Trouble) (a : Result Offer SourceFault)
+    → t ≡ trouble_of r → a ≡ answer_of r → Asks 6 2 name id id' s s' (λ last. Ends last name s s' r)
+    → Asks 6 2 name id id' s s' (λ last. Answers last name s s' t a)
+answered name id id' s s' r t a is_t is_a one = record {
+  named = one.named;
+  count = one.count;
+  some = one.some;
+  few = one.few;
+  exchanges = one.exchanges;
+  numbers = one.numbers;
+  query = one.query;
+  zones = one.zones;
+  faults = one.faults;
+  calm = one.calm;
+  came =
+      subst (λ (u : Option Trouble). Answers ((id + (one.count - 1)) % 2 ^ 16) name s s' u a) (sym is_t)
+      (subst (λ (b : Result Offer SourceFault). Answers ((id + (one.count - 1)) % 2 ^ 16) name s s' (trouble_of r) b) (sym is_a)
+      (answers ((id + (one.count - 1)) % 2 ^ 16) name s s' r one.came));
+}

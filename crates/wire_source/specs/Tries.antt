@@ -1,10 +1,10 @@
 -- Tries of a question over a link (this project's own).
-use Rattle.std.specs.Prelude.{◌≡◌, ◌≢◌, ◌↔◌, ℕ, ◌+◌, ◌-◌, ◌*◌, ◌%◌, ◌^◌, ◌<◌, ◌≤◌, min, Option, Some, None, Result, Ok, Err, ⊤}
+use Rattle.std.specs.Prelude.{◌≡◌, ◌≢◌, ◌↔◌, ℕ, ◌+◌, ◌-◌, ◌*◌, ◌%◌, ◌^◌, ◌<◌, ◌≤◌, min, List, [], Option, Some, None, option_map, is_some, Result, Ok, Err, ⊤}
 use Rattle.enum_base.specs.Causes.{Rose, many_more, one_more}
 use Rattle.enum_base.specs.Outside.{WhereTold}
 use Rattle.enum_base.specs.declared.fault.MemoryFault.{MemoryFault}
 use Rattle.dns_name.specs.Name.{IsName}
-use Rattle.naptr_data.specs.Sources.{HasFewRules}
+use Rattle.naptr_data.specs.Sources.{HasFewRules, RuleSourceState}
 use Rattle.naptr_data.specs.Zones.{Labels, IsOffer}
 use Rattle.naptr_data.specs.declared.offer.Offer.{Offer}
 use Rattle.naptr_data.specs.declared.source.SourceFault.{SourceFault}
@@ -96,6 +96,25 @@ abbrev pub answer_of : Result Offer NoOffer → Result Offer SourceFault
 answer_of (Ok o) = Ok o
 answer_of (Err (no_offer.Failed t)) = Err fault.Trouble
 answer_of (Err no_offer.Memory) = Err fault.Memory
+
+-- what a source answers, by the number of its last query, and the trouble that it keeps
+abbrev pub Answers : ℕ → Labels → LinkState → LinkState → Option Trouble → Result Offer SourceFault → Type 0
+Answers last name old new trouble (Ok o) = (trouble ≡ None) × IsAnswered last name old new o
+Answers last name old new trouble (Err fault.Trouble) = (t : Trouble) × (trouble ≡ Some t) × HasFailed 3 last name old new t
+Answers last name old new trouble (Err fault.Memory) = trouble ≡ None
+
+-- what a source over a link tells of itself as of every source
+abbrev pub source_state : LinkState → ℕ → ℕ → Option Trouble → List ℕ → RuleSourceState
+source_state link asks troubles trouble lent = record {
+  zones = option_map told link.zones;
+  asks = asks;
+  troubles = troubles;
+  failed = is_some trouble;
+  room = 0;
+  kept = [];
+  fetched = asks;
+  lent = lent;
+}
 
 -- the trouble of the last offer, of which a link still tells: three tries of one way failed since these counts
 pub record WasTrouble (before : Counts) (now : LinkState) (trouble : Trouble) : Type 0 where

@@ -54,21 +54,40 @@ impl<'a, L: Link> WireSource<'a, L> {
 }
 
 impl<L: Link> RuleSource for WireSource<'_, L> {
-    ghost use Rattle.std.specs.Prelude.{◌∷◌, [], option_map, is_some};
+    ghost use Rattle.std.specs.Prelude.{◌∷◌, [], IfOk, option_map};
+    ghost use Rattle.dns_name.specs.Name.{folded_labels};
+    ghost use Rattle.enum_base.specs.Causes.{one_more};
+    ghost use Rattle.enum_base.specs.Outside.{WhereTold};
+    ghost use Rattle.naptr_data.specs.Sources.{AreKept, Fetches, HasFewRules, HasTrouble, KeepsNames};
+    ghost use Rattle.naptr_data.specs.Zones.{IsOffer};
     ghost use Rattle.zone_build.specs.Plain.{told};
+    ghost use Rattle.wire_source.specs.Tries.{Answers, Asks, source_state};
 
-    ghost state = { λ s. record {
-      zones = option_map told (L.state s.link.now).zones;
-      asks = s.asks;
-      troubles = s.troubles;
-      failed = is_some s.trouble;
-      room = 0;
-      kept = [];
-      fetched = s.asks;
-      lent = s.link.ghost_name ∷ [];
-    } };
+    ghost state = { λ s. source_state (L.state s.link.now) s.asks s.troubles s.trouble (s.link.ghost_name ∷ []) };
 
-    fn offer(&mut self, alloc: Global, name: &Name) -> Result<Offer, SourceFault> {
+    /// What is at the name, as the server tells it: by datagram, and on a stream where the reply was cut short, in at most
+    /// three tries of each way. A query has the next number.
+    ///
+    /// # Errors
+    /// `Trouble`, only where three tries of one way failed; `last_trouble` then tells what was wrong with the last. `Memory`;
+    /// the first try comes before any memory is taken.
+    fn offer(&mut self, alloc: Global, name: &Name) -> Result<Offer, SourceFault>
+        ensures zones { option_map told (L.state self.new.link.now).zones ≡ option_map told (L.state self.old.link.now).zones }
+        ensures offered { IfOk result (λ offer. WhereTold (option_map told (L.state self.old.link.now).zones) (λ zones. IsOffer zones name.now offer)) }
+        ensures few { IfOk result HasFewRules }
+        ensures asks { self.new.asks ≡ one_more self.old.asks }
+        ensures trouble { HasTrouble
+            (source_state (L.state self.old.link.now) self.old.asks self.old.troubles self.old.trouble (self.old.link.ghost_name ∷ []))
+            (source_state (L.state self.new.link.now) self.new.asks self.new.troubles self.new.trouble (self.new.link.ghost_name ∷ [])) result }
+        ensures keeps { KeepsNames 0 (folded_labels name.now) [] [] result }
+        ensures fetched { Fetches (folded_labels name.now) [] self.old.asks self.new.asks }
+        ensures before { AreKept [] self.old.asks }
+        ensures after { AreKept [] self.new.asks }
+        ensures lent { self.new.link.ghost_name ∷ [] ≡ self.old.link.ghost_name ∷ [] }
+        ensures asked { Asks 6 2 name.now self.old.id self.new.id (L.state self.old.link.now) (L.state self.new.link.now)
+            (λ last. Answers last name.now (L.state self.old.link.now) (L.state self.new.link.now) self.new.trouble result) }
+        ensures since { self.new.before ≡ self.old.before }
+    {
         // The type of the link keeps that zones which it tells are a set.
         let _counts = self.link.counts();
         self.trouble = None;
