@@ -1,30 +1,28 @@
 -- What is found in zones, as it is read in the reply that says it.
-use Rattle.std.proofs.Common.{◌≡◌, ◌⊎◌, inl, inr, ℕ, zero, suc, ◌+◌, ◌<◌, ◌≤◌, ◌%◌, List, [], ◌∷◌, ◌++◌, length, map, get_or, refl, sym, ap, subst, ◌∙◌, arith}
+use Rattle.std.proofs.Common.{◌≡◌, ◌⊎◌, inl, inr, ℕ, zero, suc, ◌%◌, List, [], ◌∷◌, ◌++◌, refl, sym, ap, subst, ◌∙◌, arith}
 use Rattle.std.specs.Prelude.{Contains, IsTrue}
-use Rattle.std.specs.List.{AllByRecursion}
 use Rattle.std.proofs.lemmas.List.Elements.{Contains-append_left, Contains-append_right, Contains-append_cases}
-use Rattle.dns_name.specs.Name.{AreSame, folded_labels}
+use Rattle.dns_name.specs.Name.{folded_labels}
 use Rattle.naptr_rule.specs.declared.rule.Naptr.{Naptr}
 use Rattle.naptr_data.specs.Zones.{Labels}
 use Rattle.naptr_data.specs.declared.offer.Offer.{Offer}
 use Rattle.naptr_data.specs.declared.offer.Offer.TheVariants as offer
 use Rattle.naptr_data.proofs.CutLemmas.{Contains-head, Contains-after, Contains-middle, Contains-none, head_or_after}
-use Rattle.dns_wire.specs.Kinds.{kind_of, is_whole, ns, cname, soa, naptr}
+use Rattle.dns_wire.specs.Kinds.{kind_of, is_whole, ns, soa, naptr}
 use Rattle.dns_wire.specs.declared.content.Content.{Content}
 use Rattle.dns_wire.specs.declared.content.Content.TheVariants as content
-use Rattle.dns_wire.specs.declared.content.Soa.{Soa}
 use Rattle.dns_wire.specs.declared.record.Record.{Record}
 use Rattle.zone_build.specs.Zone.{Zone, IsIn, IsSet, IsValid}
-use Rattle.zone_build.proofs.ListLemmas.{AllByRecursion-contains, only_one}
+use Rattle.zone_build.proofs.ListLemmas.{AllByRecursion-contains}
 use Rattle.zone_build.proofs.RdataLemmas.{kind_is}
 use Rattle.zone_db.specs.LookUp.{AreRulesOf, AsksFor, HasKind, IsFound, ReadsAs, Shown, shown}
 use Rattle.zone_db.specs.LookUp.Shown.{outside, cut_of, alias_of, set_of, no_set, no_name}
-use Rattle.zone_db.specs.Replies.{Adds, Follows, IsNegative, nothing, owned_by}
+use Rattle.zone_db.specs.Replies.{Adds, Follows, IsNegative, owned_by}
 use Rattle.zone_db.specs.Sets.{AreZones}
 use Rattle.zone_db.specs.declared.draft.Added.{Added}
 use Rattle.zone_db.specs.declared.found.Found.{Found}
 use Rattle.zone_db.specs.declared.found.Found.TheVariants as found
-use Rattle.wire_source.specs.Readings.{AreRulesAt, HasNoAlias, IsAlias, IsFirstAlias, IsReferral, IsRuleAt, Says, SayRecords, refused}
+use Rattle.wire_source.specs.Readings.{AreRulesAt, HasNoAlias, IsAlias, IsFirstAlias, IsReferral, Says, SayRecords, refused}
 
 ns_content : (c : Content) → kind_of c ≡ ns → IsTrue (is_whole c) → (server : Labels) × (c ≡ content.Ns server)
 ns_content (content.A address) e w = absurd (omega (arith, e))

@@ -1,31 +1,26 @@
 -- The reply of zones to a query is read as what they offer.
 use Rattle.std.proofs.Common.{◌≡◌, ◌⊎◌, inl, inr, ℕ, ◌+◌, ◌*◌, ◌/◌, ◌%◌, ◌^◌, ◌<◌, ◌≤◌, List, [], ◌∷◌, ◌++◌, length, refl, sym, ap, subst, ◌∙◌, arith, length-append}
-use Rattle.std.specs.Prelude.{Bool, true, false, Option, Some, None}
+use Rattle.std.specs.Prelude.{Bool, true, false, Option}
 use Rattle.std.specs.Int.{w16, to_be_bytes}
 use Rattle.std.specs.List.{flat_map}
 use Rattle.std.proofs.lemmas.List.Concat.{flat_map-cons}
 use Rattle.dns_name.specs.Name.{IsName, folded_labels, wire_of}
-use Rattle.naptr_data.specs.Zones.{Labels, IsOffer}
-use Rattle.naptr_data.specs.declared.offer.Offer.{Offer}
-use Rattle.dns_wire.specs.Encoding.{counts_of, header_wire, message_wire, question_wire, record_wire}
-use Rattle.dns_wire.specs.Message.{Spells, Breaks}
+use Rattle.naptr_data.specs.Zones.{Labels}
+use Rattle.dns_wire.specs.Encoding.{counts_of, header_wire, message_wire, question_wire}
+use Rattle.dns_wire.specs.Message.{Spells}
 use Rattle.dns_wire.specs.Ranges.{IsMessage}
-use Rattle.dns_wire.specs.declared.decode_fault.DecodeFault.{DecodeFault}
 use Rattle.dns_wire.specs.declared.message.Header.{Header}
 use Rattle.dns_wire.specs.declared.message.Message.{Message}
-use Rattle.dns_wire.specs.declared.question.Question.{Question}
 use Rattle.dns_wire.specs.declared.record.Record.{Record}
 use Rattle.dns_wire.proofs.LawLemmas.{one_message, not_both}
 use Rattle.dns_wire.proofs.MessageStandLemmas.{reads_back}
 use Rattle.zone_build.specs.Plain.{told}
 use Rattle.zone_build.specs.Zone.{Zone}
 use Rattle.zone_db.specs.Bits.{bit, header_of, opcode_of, qr_of, rd_of, tc_of, u16_at}
-use Rattle.zone_db.specs.LookUp.{IsFound, ReadsAs, shown}
-use Rattle.zone_db.specs.Replies.{Adds, Comes, Finds, Follows, IsDrafted, IsPosted, IsReply, IsSent, draft_with, limit_of, is_authoritative, plan_of, questions_of, reply_header, without_glue, without_records}
+use Rattle.zone_db.specs.LookUp.{shown}
+use Rattle.zone_db.specs.Replies.{Comes, Finds, IsDrafted, IsSent, limit_of, plan_of, questions_of, reply_header}
 use Rattle.zone_db.specs.Sets.{AreZones}
-use Rattle.zone_db.specs.declared.draft.Added.{Added}
 use Rattle.zone_db.specs.declared.draft.Draft.{Draft}
-use Rattle.zone_db.specs.declared.found.Found.{Found}
 use Rattle.zone_db.specs.declared.way.Way.{Way}
 use Rattle.zone_db.specs.declared.way.Way.TheVariants.{Stream}
 use Rattle.zone_db.proofs.OfferLemmas.{found_is_offered}

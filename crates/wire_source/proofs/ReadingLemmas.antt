@@ -1,5 +1,5 @@
 -- A reply is read in one way.
-use Rattle.std.proofs.Common.{◌≡◌, inl, inr, ℕ, List, [], ◌∷◌, ◌++◌, refl, sym, ap, subst, ◌∙◌, arith}
+use Rattle.std.proofs.Common.{◌≡◌, inl, inr, ℕ, List, [], refl, sym, ap, subst, ◌∙◌, arith}
 use Rattle.std.specs.Prelude.{Contains, IfOk, Result, Ok, Err}
 use Rattle.naptr_rule.specs.declared.rule.Naptr.{Naptr}
 use Rattle.naptr_data.specs.Zones.{Labels}
@@ -12,10 +12,9 @@ use Rattle.dns_wire.specs.declared.content.Content.TheVariants as content
 use Rattle.dns_wire.specs.declared.message.Message.{Message}
 use Rattle.dns_wire.specs.declared.record.Record.{Record}
 use Rattle.dns_wire.proofs.LawLemmas.{not_both, one_break, one_message}
-use Rattle.zone_db.specs.Bits.{tc_of}
 use Rattle.zone_db.specs.declared.way.Way.{Way}
 use Rattle.wire_source.specs.Laws.{RepliesHaveOneReading}
-use Rattle.wire_source.specs.Readings.{AreRulesAt, HasNoAlias, IsAlias, IsFirstAlias, IsRead, IsReferral, IsServerFault, MessageReads, Says, SayRecords, TakenReads, rcode_of}
+use Rattle.wire_source.specs.Readings.{AreRulesAt, HasNoAlias, IsFirstAlias, IsRead, IsServerFault, MessageReads, Says, SayRecords, TakenReads, rcode_of}
 use Rattle.wire_source.specs.declared.reading.Reading.{Reading}
 use Rattle.wire_source.specs.declared.reading.Reading.TheVariants as reading
 use Rattle.wire_source.specs.declared.trouble.Trouble.TheVariants as trouble

@@ -1,7 +1,7 @@
 -- Rules in their order, each once.
 use Rattle.std.proofs.Common.{◌≡◌, ◌≢◌, inl, inr, is_lt, ℕ, zero, suc, ◌+◌, ◌<◌, ◌≤◌, List, [], ◌∷◌, ◌++◌, length, take, get_or, refl, sym, ap, subst, ◌∙◌, arith, length-append, ◌-◌, ◌⊎◌}
 use Rattle.std.specs.Prelude.{Contains, IsPermutation, IfOk, Result, Ok, Err, Some, false}
-use Rattle.std.specs.List.{AllByRecursion, slice_get}
+use Rattle.std.specs.List.{slice_get}
 use Rattle.std.specs.List.Sorted.{IsSortedBy}
 use Rattle.std.specs.declared.cmp.Ordering.{Ordering}
 use Rattle.std.specs.declared.cmp.Ordering.TheVariants.{Less, Equal, Greater}
@@ -18,7 +18,7 @@ use Rattle.naptr_data.proofs.CutLemmas.{Contains-head, Contains-after, Contains-
 use Rattle.naptr_data.proofs.RisingLemmas.{turned}
 use Rattle.dns_wire.specs.declared.record.Record.{Record}
 use Rattle.zone_build.proofs.ListLemmas.{AllByRecursion-contains, AllByRecursion-made, only_one}
-use Rattle.wire_source.specs.Readings.{AreRulesAt, IsRuleAt}
+use Rattle.wire_source.specs.Readings.{AreRulesAt}
 use Rattle.wire_source.specs.Sorting.{AreGiven, AreOnce, IsInOrder}
 
 rising_push : (rules : List Naptr) (rule : Naptr) → IsRising rules → ((s : Naptr) → Contains rules s → rank_of s rule ≡ Less) → IsRising (rules ++ rule ∷ [])

@@ -1,5 +1,5 @@
 -- Tries, one after another.
-use Rattle.std.proofs.Common.{◌≡◌, ◌≢◌, ◌↔◌, ◌⊎◌, inl, inr, ℕ, zero, suc, ◌+◌, ◌-◌, ◌*◌, ◌%◌, ◌^◌, ◌<◌, ◌≤◌, min, List, [], ◌∷◌, Result, Ok, Err, refl, sym, ap, subst, ◌∙◌, arith}
+use Rattle.std.proofs.Common.{◌≡◌, ◌≢◌, inl, inr, ℕ, ◌+◌, ◌-◌, ◌*◌, ◌%◌, ◌^◌, ◌<◌, ◌≤◌, min, List, [], ◌∷◌, Result, Ok, Err, refl, sym, ap, subst, ◌∙◌, arith}
 use Rattle.std.specs.Prelude.{IfOk, Option, Some, None, Bool, true, false, not, is_some, option_map}
 use Rattle.enum_base.specs.Causes.{Rose, many_more, one_more}
 use Rattle.enum_base.specs.Outside.{WhereTold}
@@ -21,8 +21,8 @@ use Rattle.zone_db.specs.declared.way.Way.{Way}
 use Rattle.zone_db.specs.declared.way.Way.TheVariants.{Stream}
 use Rattle.wire_source.specs.Laws.{IsHonest}
 use Rattle.wire_source.specs.Queries.{query_bytes}
-use Rattle.wire_source.specs.Readings.{IsRead, MessageReads, TakenReads}
-use Rattle.wire_source.specs.Tries.{Answers, Asks, ComesTo, Ends, HasFailed, HasFewRead, IsAnswered, Keeps, WasTrouble, answer_of, end_of, trouble_of, troubles_with}
+use Rattle.wire_source.specs.Readings.{IsRead}
+use Rattle.wire_source.specs.Tries.{Answers, Asks, ComesTo, Ends, HasFailed, HasFewRead, Keeps, WasTrouble, answer_of, end_of, trouble_of, troubles_with}
 use Rattle.zone_db.specs.declared.link.Counts.{Counts}
 use Rattle.wire_source.specs.declared.tries.NoOffer.{NoOffer}
 use Rattle.wire_source.specs.declared.tries.NoOffer.TheVariants as no_offer
@@ -391,3 +391,13 @@ answered name id id' s s' r t a is_t is_a one = record {
       (subst (λ (b : Result Offer SourceFault). Answers ((id + (one.count - 1)) % 2 ^ 16) name s s' (trouble_of r) b) (sym is_a)
       (answers ((id + (one.count - 1)) % 2 ^ 16) name s s' r one.came));
 }
+
+-- exchanges behind others are at least two
+pub at_least_two : (a b c d : ℕ) (name : Labels) (id id' id'' : ℕ) (s s' s'' : LinkState) (P Q : ℕ → Type 0) → Asks a b name id id' s s' P
+    → Asks c d name id' id'' s' s'' Q → many_more s.exchanges 2 ≤ s''.exchanges
+at_least_two a b c d name id id' id'' s s' s'' P Q one two =
+    let x = one.exchanges in
+    let y = two.exchanges in
+    let m = one.some in
+    let n = two.some in
+    omega (arith, x, y, m, n)

@@ -7,7 +7,7 @@ use crate::trouble::Trouble;
 use dns_name::Name;
 use naptr_data::{Offer, RuleSource, SourceFault};
 use std::alloc::Global;
-use zone_db::{Counts, Link};
+use zone_db::{Counts, Link, Way};
 
 /// A server that is asked for rules over a link. It tells the zones that its link tells, and keeps no names.
 pub struct WireSource<'a, L: Link> {
@@ -54,9 +54,9 @@ impl<'a, L: Link> WireSource<'a, L> {
 }
 
 impl<L: Link> RuleSource for WireSource<'_, L> {
-    ghost use Rattle.std.specs.Prelude.{◌∷◌, [], IfOk, option_map};
+    ghost use Rattle.std.specs.Prelude.{◌≤◌, ◌∷◌, [], IfOk, option_map};
     ghost use Rattle.dns_name.specs.Name.{folded_labels};
-    ghost use Rattle.enum_base.specs.Causes.{one_more};
+    ghost use Rattle.enum_base.specs.Causes.{many_more, one_more};
     ghost use Rattle.enum_base.specs.Outside.{WhereTold};
     ghost use Rattle.naptr_data.specs.Sources.{AreKept, Fetches, HasFewRules, HasTrouble, KeepsNames};
     ghost use Rattle.naptr_data.specs.Zones.{IsOffer};
@@ -86,6 +86,7 @@ impl<L: Link> RuleSource for WireSource<'_, L> {
         ensures lent { self.new.link.ghost_name ∷ [] ≡ self.old.link.ghost_name ∷ [] }
         ensures asked { Asks 6 2 name.now self.old.id self.new.id (L.state self.old.link.now) (L.state self.new.link.now)
             (λ last. Answers last name.now (L.state self.old.link.now) (L.state self.new.link.now) self.new.trouble result) }
+        ensures datagram { (L.state self.new.link.now).way ≡ Way.Stream → many_more (L.state self.old.link.now).exchanges 2 ≤ (L.state self.new.link.now).exchanges }
         ensures since { self.new.before ≡ self.old.before }
     {
         // The type of the link keeps that zones which it tells are a set.

@@ -1,5 +1,6 @@
 //! Tries of a question: three of a way, and two ways.
-ghost use Rattle.std.specs.Prelude.{◌≡◌, ◌↔◌, Ok, IsTrue};
+ghost use Rattle.std.specs.Prelude.{◌≡◌, ◌↔◌, ◌≤◌, Ok, IsTrue};
+ghost use Rattle.enum_base.specs.Causes.{many_more};
 ghost use Rattle.zone_db.specs.Links.{TellsSet};
 ghost use Rattle.wire_source.specs.Tries.{Asks, ComesTo, Ends, answer_of, end_of, trouble_of, troubles_with};
 ghost use Rattle.wire_source.specs.declared.reading.Reading.TheVariants as reading;
@@ -31,8 +32,9 @@ pub(crate) fn ask<L: Link>(
     name: &Name,
 ) -> Result<Offer, NoOffer>
     requires { TellsSet (L.state link.old) }
-    ensures { Asks 6 2 name.now id.old id.new (L.state link.old) (L.state link.new)
+    ensures asked { Asks 6 2 name.now id.old id.new (L.state link.old) (L.state link.new)
         (λ last. Ends last name.now (L.state link.old) (L.state link.new) result) }
+    ensures datagram { (L.state link.new).way ≡ Way.Stream → many_more (L.state link.old).exchanges 2 ≤ (L.state link.new).exchanges }
 {
     let read = ask_by(alloc, link, Way::Datagram, id, name);
     if !is_cut_short(&read) {

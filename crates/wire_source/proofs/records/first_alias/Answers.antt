@@ -1,4 +1,4 @@
-use Rattle.std.proofs.Common.{inl, inr, ◌+◌, take, drop, subst, sym}
+use Rattle.std.proofs.Common.{inl, inr, subst}
 use Rattle.dns_wire.specs.declared.record.Record.{Record}
 use Rattle.zone_build.proofs.ListLemmas.{turn_of, turned_all}
 use Rattle.wire_source.specs.Readings.{IsAlias}

@@ -1,6 +1,6 @@
 use Rattle.std.proofs.Common.{◌+◌, take, sym, subst, ◌∙◌}
 use Rattle.wire_source.specs.Sorting.{AreGiven}
-use Rattle.wire_source.proofs.RuleLemmas.{given_next, given_passed, given_all}
+use Rattle.wire_source.proofs.RuleLemmas.{given_next, given_passed}
 use Rattle.wire_source.proofs.rules.given_rules.Goals.{in-Some+in_ok-push, in_default}
 use Rattle.wire_source.proofs.rules.given_rules.Goals as goal
 

@@ -1,5 +1,5 @@
 use Rattle.std.proofs.Common.{subst}
-use Rattle.std.specs.Prelude.{IfOk, length}
+use Rattle.std.specs.Prelude.{IfOk}
 use Rattle.wire_source.specs.Sorting.{AreOnce}
 use Rattle.wire_source.proofs.SortLemmas.{once_rules, once_few}
 use Rattle.wire_source.proofs.rules.rules_at.Goals as goal

@@ -1,4 +1,4 @@
-use Rattle.std.proofs.Common.{◌≡◌, subst}
+use Rattle.std.proofs.Common.{subst}
 use Rattle.wire_source.specs.Tries.{Asks, ComesTo}
 use Rattle.wire_source.proofs.TryLemmas.{again}
 use Rattle.wire_source.proofs.tries.ask_twice.Goals as goal

@@ -1,4 +1,4 @@
-use Rattle.std.proofs.Common.{Ok, Some, ◌≡◌, refl, subst, ◌∙◌}
+use Rattle.std.proofs.Common.{Ok, Some, refl, subst, ◌∙◌}
 use Rattle.std.specs.Prelude.{IfOk}
 use Rattle.enum_base.specs.Outside.{WhereTold}
 use Rattle.zone_db.specs.Replies.{IsReply}
