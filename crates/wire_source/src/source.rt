@@ -10,6 +10,7 @@ use std::alloc::Global;
 use zone_db::{Counts, Link, Way};
 
 /// A server that is asked for rules over a link. It tells the zones that its link tells, and keeps no names.
+#[derive(Drop)]
 pub struct WireSource<'a, L: Link> {
     link: &'a mut L,
     // The counts of the link when the source was made.
