@@ -1,8 +1,8 @@
 #!/usr/bin/env python3
 """Writes the cases of this folder: `wire.py stdin` the lines, `wire.py stdout` the lines with their answers.
 
-The replies are built here, byte by byte (RFC 1035, 4.1), and each answer stands beside its case: by RFC 1034, 1035, 2308
-and 3403 and the rules of this project on the reading of replies, and by no program of this repository.
+The replies are built here, byte by byte (RFC 1035, 4.1), and each answer stands beside its case: by RFC 1034, 1035,
+2308 and 3403 and the rules of this project on the reading of replies, and by no program of this repository.
 """
 import struct
 import sys
@@ -89,15 +89,19 @@ def thrice(answer, make):
 
 H = ('4.4.e164.arpa. 3600 IN SOA ns.example. host.example. 1 7200 900 604800 300\\n'
      '4.4.e164.arpa. 3600 IN NS ns.example.\\n')
-TWELVE = ''.join('2.4.4.e164.arpa. 3600 IN NAPTR 100 %d "u" "E2U+sip" "!^.*$!sip:%s!" .\\n' % (at, 93 * 'a') for at in range(1, 13))
+ONE = '2.4.4.e164.arpa. 3600 IN NAPTR 100 %d "u" "E2U+sip" "!^.*$!sip:%s!" .\\n'
+TWELVE = ''.join(ONE % (at, 93 * 'a') for at in range(1, 13))
 TOLD = 'rules 12' + ''.join(' (100 %d E2U+sip)' % at for at in range(1, 13))
 EX = ('ex. 3600 IN SOA ns.ex. host.ex. 1 7200 900 604800 300\\nex. 3600 IN NS ns.ex.\\n'
       'a.ex. 60 IN NAPTR 100 20 "u" "E2U+web:http" "!^.*$!http://a.ex/!" .\\n'
       'a.ex. 60 IN NAPTR 100 20 "u" "E2U+sip" "!^.*$!sip:a@ex!" .\\n'
       'a.ex. 60 IN NAPTR 100 3 "u" "E2U+tel" "!^.*$!tel:+1!" .\\n'
-      'a.ex. 60 IN TXT "a"\\nto.ex. 60 IN CNAME A.ex.\\nself.ex. 60 IN CNAME SELF.ex.\\ngone.ex. 60 IN CNAME none.ex.\\n'
-      'far.ex. 60 IN CNAME x.nowhere.\\nin.ex. 60 IN CNAME b.sub.ex.\\ntext.ex. 60 IN TXT "t"\\nsub.ex. 60 IN NS ns.sub.ex.\\n'
-      'ns.sub.ex. 60 IN A 192.0.2.1\\n*.w.ex. 60 IN NAPTR 1 1 "u" "E2U+sip" "!^.*$!sip:w@ex!" .\\n*.v.ex. 60 IN CNAME a.ex.\\n')
+      'a.ex. 60 IN TXT "a"\\nto.ex. 60 IN CNAME A.ex.\\nself.ex. 60 IN CNAME SELF.ex.\\n'
+      'gone.ex. 60 IN CNAME none.ex.\\n'
+      'far.ex. 60 IN CNAME x.nowhere.\\nin.ex. 60 IN CNAME b.sub.ex.\\ntext.ex. 60 IN TXT "t"\\n'
+      'sub.ex. 60 IN NS ns.sub.ex.\\n'
+      'ns.sub.ex. 60 IN A 192.0.2.1\\n*.w.ex. 60 IN NAPTR 1 1 "u" "E2U+sip" "!^.*$!sip:w@ex!" .\\n'
+      '*.v.ex. 60 IN CNAME a.ex.\\n')
 A = 'rules 3 (100 3 E2U+tel) (100 20 E2U+sip) (100 20 E2U+web:http) as zones'
 N = '2.4.4.e164.arpa.'
 
@@ -138,7 +142,8 @@ CASES = [
     '',
     '# Rules are sorted, each once: ties go by RDATA, whose texts have their length first',
     once(BOTH, [SIP, WEB, SIP, WEB]),
-    once('rules 2 (100 10 E2U+sip) (100 10 E2U+a:bcde)', [rule('a.ex.', 100, 10, 'E2U+a:bcde'), rule('A.eX.', 100, 10, 'E2U+sip')]),
+    once('rules 2 (100 10 E2U+sip) (100 10 E2U+a:bcde)',
+         [rule('a.ex.', 100, 10, 'E2U+a:bcde'), rule('A.eX.', 100, 10, 'E2U+sip')]),
     once('rules 2 (9 9 E2U+sip) (10 1 E2U+sip)', [rule('a.ex.', 10, 1, 'E2U+sip'), rule('a.ex.', 9, 9, 'E2U+sip')]),
     once('rules 1 (100 20 E2U+sip)', [record(b'\xc0\x0c', 35, SIP[len(name('a.ex.')) + 10:])]),
     once('rules 0', [rule('b.ex.', 1, 1, 'E2U+sip'), rule('x.a.ex.', 1, 1, 'E2U+sip')]),
@@ -178,7 +183,8 @@ CASES = [
     '# What is no message, and what is no reply to the query',
     thrice('trouble BadReply Short 0', lambda at: reply(at)[:22]),
     thrice('trouble BadReply Trailing 22', lambda at: reply(at) + '00'),
-    thrice('trouble BadReply ForwardPointer 12', lambda at: struct.pack('>HH', at, QR).hex() + '0001000000000000c00c00230001'),
+    thrice('trouble BadReply ForwardPointer 12',
+           lambda at: struct.pack('>HH', at, QR).hex() + '0001000000000000c00c00230001'),
     thrice('trouble WrongReply', lambda at: reply(at + 1, [SIP])),
     thrice('trouble WrongReply', lambda at: reply(FIRST - 1, [SIP])),
     thrice('trouble WrongReply', lambda at: reply(at, [SIP], bits=RD)),
@@ -198,17 +204,22 @@ CASES = [
     '',
     '# TC: of a datagram the stream is asked, whatever else it says; on a stream it is no reply',
     case(BOTH, [reply(FIRST, bits=QR | TC), reply(FIRST + 1, [SIP, WEB])], datagrams(1) + streams(1, FIRST + 1)),
-    case(BOTH, [reply(FIRST, [SIP], bits=QR | TC), reply(FIRST + 1, [SIP, WEB])], datagrams(1) + streams(1, FIRST + 1)),
-    case('unserved', [reply(FIRST, bits=QR | TC, code=2), reply(FIRST + 1, code=5)], datagrams(1) + streams(1, FIRST + 1)),
-    case('trouble WrongReply', [reply(FIRST, bits=QR | TC)] + [reply(FIRST + at, [SIP], bits=QR | TC) for at in (1, 2, 3)],
+    case(BOTH, [reply(FIRST, [SIP], bits=QR | TC), reply(FIRST + 1, [SIP, WEB])],
+         datagrams(1) + streams(1, FIRST + 1)),
+    case('unserved', [reply(FIRST, bits=QR | TC, code=2), reply(FIRST + 1, code=5)],
+         datagrams(1) + streams(1, FIRST + 1)),
+    case('trouble WrongReply',
+         [reply(FIRST, bits=QR | TC)] + [reply(FIRST + at, [SIP], bits=QR | TC) for at in (1, 2, 3)],
          datagrams(1) + streams(3, FIRST + 1)),
     thrice('trouble WrongReply', lambda at: reply(at + 1, bits=QR | TC)),
     '',
     '# Each way has three tries, and a try after one that failed goes the same way',
     case('trouble LinkFault', ['-', '-', '-', reply(FIRST + 3, [SIP])], datagrams(3)),
     case(BOTH, ['-', '-', reply(FIRST + 2, [SIP, WEB])], datagrams(3)),
-    case(BOTH, ['-', '00', reply(FIRST + 2, bits=QR | TC), '-', '00', reply(FIRST + 5, [SIP, WEB])], datagrams(3) + streams(3, FIRST + 3)),
-    case('trouble Server 2', ['-', '00', reply(FIRST + 2, bits=QR | TC), '-', '00', reply(FIRST + 5, code=2), reply(FIRST + 6, [SIP])],
+    case(BOTH, ['-', '00', reply(FIRST + 2, bits=QR | TC), '-', '00', reply(FIRST + 5, [SIP, WEB])],
+         datagrams(3) + streams(3, FIRST + 3)),
+    case('trouble Server 2',
+         ['-', '00', reply(FIRST + 2, bits=QR | TC), '-', '00', reply(FIRST + 5, code=2), reply(FIRST + 6, [SIP])],
          datagrams(3) + streams(3, FIRST + 3)),
     case('trouble LinkFault', ['00', reply(FIRST + 1, code=2), '-'], datagrams(3)),
     case('trouble BadReply Short 0', ['-', reply(FIRST + 1, code=2), '00'], datagrams(3)),
