@@ -52,17 +52,11 @@ fn push_rule(alloc: Global, rule: &Naptr, told: &mut String) -> Result<(), Memor
 }
 
 fn push_trouble(alloc: Global, trouble: Trouble, told: &mut String) -> Result<(), MemoryFault> {
-    match trouble {
-        Trouble::LinkFault => told.push_str(" LinkFault")?,
-        Trouble::BadReply(fault) => {
-            told.push_str(" BadReply ")?;
-            told.push_str(text_of(alloc, fault.words().as_slice())?.as_str())?;
-        }
-        Trouble::WrongReply => told.push_str(" WrongReply")?,
-        Trouble::Server { rcode } => {
-            told.push_str(format!(in alloc; " Server {rcode}")?.as_str())?;
-        }
+    if let Trouble::BadReply(_) = trouble {
+        told.push_str(" BadReply")?;
     }
+    told.push_str(" ")?;
+    told.push_str(text_of(alloc, trouble.words().as_slice())?.as_str())?;
     Ok(())
 }
 

@@ -1,3 +1,4 @@
+pub mod FaultWords
 pub mod Laws
 pub mod Queries
 pub mod Readings

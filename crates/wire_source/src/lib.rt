@@ -9,6 +9,7 @@ mod rules;
 mod source;
 mod tries;
 mod trouble;
+mod words;
 
 pub use laws::{honest_replies_are_offers, one_reading};
 pub use source::WireSource;
