@@ -343,6 +343,15 @@ def main():
         raw("datagram", head(bits, (1, 0, 0, 0)), head(0x8001 | bits & 0x7900, (0, 0, 0, 0)))
     raw("stream", head(0x0100, (1, 0, 0, 1)) + question("ex.", 6) + options() + "00", head(0x8101, (0, 0, 0, 0)))
     raw("stream", head(0x0100, (1, 0, 0, 0)) + question("ex.", 6) + "00", head(0x8101, (0, 0, 0, 0)))
+    heading("A query cut after so many bytes: nothing is said before the header is whole, then FORMERR")
+    query = "123401200001000000000001" "01340134046531363404617270610000230001" "00002904d000000000000c000a00080102030405060708"
+    for size in range(len(query) // 2):
+        raw("datagram", query[:2 * size], "silent" if size < 12 else "123481010000000000000000")
+    heading("Names by pointers: the owner of options is the root by a pointer, or another name; a pointer to itself is no name")
+    reply = Reply(ZONES, "datagram", 0x1234, 0, ("ex.", SOA, 1), 1232)
+    raw("datagram", head(0, (1, 0, 0, 1)) + question("ex.", SOA) + options(owner=b"\xc0\x0f"), reply.wire().hex())
+    raw("datagram", head(0, (1, 0, 0, 1)) + question("ex.", SOA) + options(owner=b"\xc0\x0c"), head(0x8001, (0, 0, 0, 0)))
+    raw("datagram", head(0, (1, 0, 0, 1)) + question("ex.", SOA) + options(owner=b"\xc0\x14"), head(0x8001, (0, 0, 0, 0)))
     heading("Options that stray: FORMERR with a header alone, before the opcode is looked at")
     q = question("ex.", 6)
     for bits in (0x0100, 0x1100):

@@ -19,7 +19,7 @@ mod script;
 
 use cases_text::{Cases, print_cases};
 use enum_base::MemoryFault;
-use responder::{found_is_ready, one_reply, stream_is_whole};
+use responder::{found_is_ready, one_reply, some_reply, stream_is_whole};
 use script::Script;
 use std::alloc::Global;
 use std::io;
@@ -29,6 +29,7 @@ fn main(rt: HostRuntime) -> io::Result<()> {
     print_cases(&rt, &mut script)?;
     found_is_ready();
     one_reply();
+    some_reply();
     stream_is_whole();
     Ok(())
 }

@@ -16,7 +16,7 @@ use Rattle.std.proofs.lemmas.List.{take_rest}
 use Rattle.cases_rules.specs.Names.{names_of}
 use Rattle.cases_rules.specs.declared.kept.Kept.{Kept}
 use Rattle.cases_rules.specs.declared.kept.Kept.TheVariants.{One, Two}
-use Rattle.ddds_walk.proofs.Elements.{has_none, has_cons, has_head, has_tail, has_same}
+use Rattle.ddds_walk.proofs.ElementLemmas.{has_none, has_cons, has_head, has_tail, has_same}
 
 -- a folded name is folded again to itself
 folded_twice : (bytes : List ℕ) → folded (folded bytes) ≡ folded bytes

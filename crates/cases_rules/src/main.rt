@@ -8,11 +8,13 @@
 //!   then those of groups 1 to 9.
 //! - `split RULE`: the expression, the replacement, its place, the delimiter and whether case is ignored. `apply RULE on
 //!   TEXT`: what the rule gives after `>`, and the length of a long output. `check RULE`: the first fault.
+//! - `takes APP ORDER PREFERENCE FLAGS SERVICES REGEXP REPLACEMENT`: whether provisioning takes the rule, or its first fault.
 //! - The other verbs are those of walks (module `script`).
 #![tactic(auto)]
 
 mod app;
 mod cache;
+mod checks;
 mod expressions;
 mod kept;
 mod listed;
@@ -39,6 +41,7 @@ impl Cases for Script {
             "ere" | "part" | "lists" => expressions::answer(alloc, verb, rest)?,
             "match" | "fold" => matches::answer(alloc, verb, rest)?,
             "split" | "apply" | "check" => substitutions::answer(alloc, verb, rest)?,
+            "takes" => checks::answer(alloc, rest)?,
             _ => return self.read(alloc, verb, rest),
         };
         line_of(alloc, answer.as_str())

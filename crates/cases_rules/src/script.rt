@@ -208,7 +208,7 @@ fn string_of(alloc: Global, field: &str) -> Result<Text255, MemoryFault> {
 }
 
 // The rule of six fields.
-fn rule_of(alloc: Global, text: &str) -> Result<Naptr, MemoryFault> {
+pub fn rule_of(alloc: Global, text: &str) -> Result<Naptr, MemoryFault> {
     let mut fields = text.split(' ');
     let order = number_of(fields.next().unwrap_or(""));
     let preference = number_of(fields.next().unwrap_or(""));

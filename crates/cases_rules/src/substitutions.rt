@@ -53,7 +53,7 @@ fn subst_words(alloc: Global, fault: SubstFault) -> Result<String, MemoryFault> 
     }
 }
 
-fn regexp_words(alloc: Global, fault: RegexpFault) -> Result<String, MemoryFault> {
+pub fn regexp_words(alloc: Global, fault: RegexpFault) -> Result<String, MemoryFault> {
     match fault {
         RegexpFault::Split(fault) => subst_words(alloc, fault),
         RegexpFault::Ere(fault) => expressions::fault_words(alloc, fault),

@@ -18,8 +18,8 @@ use Rattle.naptr_rule.specs.declared.rule.Naptr.{Naptr}
 use Rattle.subst_expr.specs.Laws.{OneOutput}
 use Rattle.ddds_walk.specs.Rules.{Client, Gives, IsAdmissible, AreFollowed, IsEdgeOf}
 use Rattle.ddds_walk.specs.declared.edge.Edge.{Edge}
-use Rattle.ddds_walk.proofs.Elements.{has_none, has_cons, has_head, has_tail, has_same}
-use Rattle.ddds_walk.proofs.Told.{one_gift, one_chosen}
+use Rattle.ddds_walk.proofs.ElementLemmas.{has_none, has_cons, has_head, has_tail, has_same}
+use Rattle.ddds_walk.proofs.ToldLemmas.{one_gift, one_chosen}
 
 -- a rule that ranks before another has no greater ORDER
 rank_order : (x y : Naptr) → rank_of x y ≡ Less → x.order ≤ y.order

@@ -1,12 +1,12 @@
 -- Sets under keys that rise are records in canonical order, of which one set is found, put in or taken away.
-use Rattle.std.proofs.Common.{◌≡◌, ◌≢◌, ◌⊎◌, inl, inr, ℕ, Bool, true, false, cond, List, [], ◌∷◌, ◌++◌, Option, Some, None, refl, sym, ap, subst, ◌∙◌, append_assoc}
+use Rattle.std.proofs.Common.{◌≡◌, ◌⊎◌, inl, inr, ℕ, Bool, true, false, cond, List, [], ◌∷◌, ◌++◌, Some, None, refl, sym, ap, subst, ◌∙◌, append_assoc}
 use Rattle.std.specs.Prelude.{Contains}
-use Rattle.std.specs.List.{AllByRecursion, flat_map}
+use Rattle.std.specs.List.{AllByRecursion}
 use Rattle.std.specs.List.Sorted.{IsStrictlySortedBy}
 use Rattle.std.specs.Map.{keys_of, lookup, remove_entry}
 use Rattle.std.specs.BTreeMap.{insert_entry, is_at}
-use Rattle.std.specs.Cmp.{Equal-is, alike_right, tied_itself}
-use Rattle.std.specs.Cmp.Lexicographic.{slice_cmp}
+use Rattle.std.specs.Cmp.{Equal-is, nat_cmp_total, tied_itself}
+use Rattle.std.specs.Cmp.Lexicographic.{nat_list_cmp_total, slice_cmp}
 use Rattle.std.specs.Ordering.{is_eq, match_ordering, nat_cmp, ordering_then}
 use Rattle.std.specs.declared.cmp.Ordering.{Ordering}
 use Rattle.std.specs.declared.cmp.Ordering.TheVariants.{Less, Equal, Greater}
@@ -19,7 +19,8 @@ use Rattle.naptr_data.specs.Zones.{Labels}
 use Rattle.naptr_data.proofs.CutLemmas.{Contains-none}
 use Rattle.dns_wire.specs.Rdata.{rdata_of}
 use Rattle.dns_wire.specs.declared.record.Record.{Record}
-use Rattle.zone_build.specs.Zone.{IsIn, IsRising, IsSet, order_of}
+use Rattle.zone_build.specs.Zone.{AreOneSet, IsIn, IsRising, IsSet, order_of}
+use Rattle.zone_db.specs.Offering.{RdataRises}
 use Rattle.zone_build.proofs.ListLemmas.{AllByRecursion-contains, AllByRecursion-made}
 use Rattle.zone_build.proofs.MergeLemmas.{IsRising-append}
 use Rattle.zone_build.proofs.OrderLemmas.{bytes_cmp-equal, equal_then, nat_cmp-equal, then_equal}
@@ -220,6 +221,27 @@ each_take test (e ∷ es) each = by (each_take test es each.1) (test e.0)
     by rest true = each.1
     by rest false = (each.0, rest)
 
+-- of records of one set the order is that of their RDATA
+pub order_in_set : (x y : Record) → AreOneSet x y → order_of x y ≡ slice_cmp nat_cmp (rdata_of x.content) (rdata_of y.content)
+order_in_set x y same =
+    ap (λ o. ordering_then o (ordering_then (nat_cmp x.kind y.kind) (slice_cmp nat_cmp (rdata_of x.content) (rdata_of y.content))))
+    (ap (λ n. slice_cmp nat_cmp (wire_of (folded_labels x.owner)) (wire_of n)) (sym same.0)
+    ∙ tied_itself nat_list_cmp_total (wire_of (folded_labels x.owner)))
+    ∙ ap (λ o. ordering_then o (slice_cmp nat_cmp (rdata_of x.content) (rdata_of y.content)))
+    (ap (nat_cmp x.kind) (sym same.1) ∙ tied_itself nat_cmp_total x.kind)
+
+pub one_owner : (owner : Labels) (kind : ℕ) (x y : Record) → IsOf owner kind x → IsOf owner kind y → AreOneSet x y
+one_owner owner kind x y a b = (ap folded_labels (a.0 ∙ sym b.0), a.1 ∙ sym b.1)
+
+pub held_rises : (owner : Labels) (kind : ℕ) (set : List Record) → AllByRecursion (IsOf owner kind) set → RdataRises set → IsRising set
+held_rises owner kind [] each rises = tt
+held_rises owner kind (x ∷ set) each rises = (
+  AllByRecursion-made (λ (next : Record). order_of x next ≡ Less) set (λ y c.
+      order_in_set x y (one_owner owner kind x y each.0 (AllByRecursion-contains (IsOf owner kind) set y each.1 c))
+      ∙ AllByRecursion-contains (λ (next : Record). slice_cmp nat_cmp (rdata_of x.content) (rdata_of next.content) ≡ Less) set y rises.0 c),
+  held_rises owner kind set each.1 rises.1,
+)
+
 -- the records rise
 then_less : (a b c : Ordering) → ordering_then a b ≡ Less → ordering_then a (ordering_then b c) ≡ Less
 then_less Less b c h = refl
@@ -253,8 +275,24 @@ pub rising_in : (es : List (SetKey × List Record)) → IsStrictlySortedBy key_o
 unfolding IsStrictlySortedBy
 rising_in [] sorted each = tt
 rising_in (e ∷ es) sorted each =
-    IsRising-append e.1 (records_in es) each.0.set.rising (rising_in es sorted.1 each.1)
+    IsRising-append e.1 (records_in es) (held_rises e.0.owner e.0.kind e.1 each.0.set.each each.0.set.rising) (rising_in es sorted.1 each.1)
     (λ x y c d. before_entries e each.0 x (AllByRecursion-contains (IsOf e.0.owner e.0.kind) e.1 x each.0.set.each c) es each.1 sorted.0 y d)
+
+held_at : (key : SetKey) → IsName key.owner → (es : List (SetKey × List Record)) → AllByRecursion IsEntry es
+    → IsHeld key.owner key.kind (held (is_at (key_order key)) es)
+held_at key name [] each = record { each = tt; rising = tt }
+held_at key name (e ∷ es) each = by (held_at key name es each.1) (key_order key e.0) refl
+  where
+    here : key_order key e.0 ≡ Equal → IsHeld key.owner key.kind e.1
+    here is =
+        let same = key_equal key e.0 name each.0.name is in
+        subst (λ o. IsHeld o key.kind e.1) (sym same.0) (subst (λ k. IsHeld e.0.owner k e.1) (sym same.1) each.0.set)
+
+    by : IsHeld key.owner key.kind (held (is_at (key_order key)) es) → (o : Ordering) → key_order key e.0 ≡ o
+        → IsHeld key.owner key.kind (cond (is_eq o) e.1 (held (is_at (key_order key)) es))
+    by rest Less is = rest
+    by rest Equal is = here is
+    by rest Greater is = rest
 
 -- what the calls of the map give
 module _ (owner : Labels) (kind : ℕ) (key : SetKey) (name : IsName owner) (owners : key.owner ≡ folded_labels owner) (kinds : key.kind ≡ kind)
@@ -299,3 +337,9 @@ module _ (owner : Labels) (kind : ℕ) (key : SetKey) (name : IsName owner) (own
 
   pub taken_each : (less : List (SetKey × List Record)) → less ≡ remove_entry (is_at (key_order key)) es → AllByRecursion IsEntry less
   taken_each less is = subst (AllByRecursion IsEntry) (sym is) (each_take (is_at (key_order key)) es each)
+
+  pub set_is_held : (set : List Record) → Some set ≡ lookup (is_at (key_order key)) es → IsHeld (folded_labels owner) kind set
+  set_is_held set is =
+      subst (λ s. IsHeld (folded_labels owner) kind s) (held_some (is_at (key_order key)) es set (sym is))
+      (subst (λ o. IsHeld o kind (held (is_at (key_order key)) es)) owners
+      (subst (λ k. IsHeld key.owner k (held (is_at (key_order key)) es)) kinds (held_at key key_name es each)))

@@ -11,7 +11,7 @@ use Rattle.naptr_rule.specs.declared.rule.Naptr.{Naptr}
 use Rattle.dns_wire.specs.Kinds.{kind_of, naptr}
 use Rattle.dns_wire.specs.Rdata.{rdata_of}
 use Rattle.dns_wire.specs.declared.record.Record.{Record}
-use Rattle.zone_build.specs.Zone.{IsRising}
+use Rattle.zone_db.specs.Offering.{RdataRises}
 use Rattle.registry.specs.declared.place.Place.{Place}
 use Rattle.registry.specs.declared.place.Place.TheVariants as place
 use Rattle.registry.specs.declared.set_key.SetKey.{SetKey}
@@ -23,7 +23,7 @@ IsOf owner kind one = (one.owner ≡ owner) × (one.kind ≡ kind)
 -- a set as it is held
 pub record IsHeld (owner : Labels) (kind : ℕ) (set : List Record) : Type 0 where
   pub each : AllByRecursion (IsOf owner kind) set
-  pub rising : IsRising set
+  pub rising : RdataRises set
 
 -- a set under its key
 pub record IsEntry (entry : SetKey × List Record) : Type 0 where

@@ -1,7 +1,7 @@
 -- Laws of commands.
-use Rattle.std.specs.Prelude.{◌≡◌, ◌⊎◌}
+use Rattle.std.specs.Prelude.{◌≡◌}
 use Rattle.zone_build.specs.Zone.{Zone, IsValid}
-use Rattle.registry.specs.Commands.{Command, IsDone, IsRefusal, Refuses}
+use Rattle.registry.specs.Commands.{Command, IsDone, IsRefusal}
 use Rattle.registry.specs.declared.fault.RegistryFault.{RegistryFault}
 
 -- a command has one first refusal at most

@@ -1,6 +1,6 @@
 //! Why a command is refused.
-use rule_check::RuleFault;
 use enum_base::MemoryFault;
+use rule_check::RuleFault;
 
 /// Why a registry refuses a command: the first that holds, in this order.
 #[derive(Clone, Copy, Debug, PartialEq, Eq, Drop)]

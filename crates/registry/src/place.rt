@@ -1,13 +1,13 @@
 //! Places of rules in a set.
-ghost use Rattle.std.specs.Prelude.{◌≡◌, length};
-ghost use Rattle.std.specs.List.{AllByRecursion};
+ghost use Rattle.std.specs.Prelude.{◌≡◌, ◌⊎◌};
 ghost use Rattle.std.specs.Cmp.Lexicographic.{slice_cmp};
 ghost use Rattle.std.specs.Ordering.{nat_cmp};
 ghost use Rattle.naptr_rule.specs.Rdata.{rdata};
 ghost use Rattle.dns_wire.specs.Kinds.{kind_of, naptr};
 ghost use Rattle.dns_wire.specs.Rdata.{rdata_of};
-ghost use Rattle.zone_build.specs.Zone.{IsRising};
+ghost use Rattle.zone_db.specs.Offering.{RdataRises};
 ghost use Rattle.registry.specs.Holding.{AreRules, IsPlace};
+ghost use Rattle.registry.specs.declared.place.Place.TheVariants as Place;
 
 use dns_wire::{Content, Record};
 use naptr_rule::Naptr;
@@ -20,10 +20,21 @@ pub(crate) enum Place {
     Free(usize),
 }
 
+impl Place {
+    /// How many records come before it.
+    pub(crate) fn at(self) -> usize
+        ensures { (self ≡ Place.Taken result) ⊎ (self ≡ Place.Free result) }
+    {
+        match self {
+            Place::Taken(at) | Place::Free(at) => at,
+        }
+    }
+}
+
 /// The place of the rule in the set, by RDATA.
 pub(crate) fn place_of(set: &[Record], rule: &Naptr) -> Place
     requires rules { AreRules set.now }
-    requires rising { IsRising set.now }
+    requires rising { RdataRises set.now }
     ensures { IsPlace set.now rule.now result }
 {
     for at in 0..set.len() {

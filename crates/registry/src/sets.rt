@@ -1,10 +1,11 @@
 //! Records but for the SOA, in canonical order.
-ghost use Rattle.std.specs.Prelude.{◌≡◌, [], List, OnOk, OnErr};
+ghost use Rattle.std.specs.Prelude.{◌≡◌, [], ◌++◌, List, OnOk, OnErr};
 ghost use Rattle.dns_name.specs.Name.{folded_labels};
 ghost use Rattle.zone_build.specs.Zone.{IsRising, IsSet};
 ghost use Rattle.registry.specs.Holding.{IsHeld, IsPut};
 ghost use Rattle.dns_wire.specs.declared.record.Record.{Record};
 
+use crate::copies::copy_all;
 use crate::set_key::SetKey;
 use dns_name::Name;
 use dns_wire::{Record, Records};
@@ -47,6 +48,7 @@ impl Sets {
     /// The set of that owner and kind.
     pub(crate) fn set(&self, owner: &Name, kind: u16) -> &[Record]
         ensures set { IsSet self.now owner.now kind result.now }
+        ensures held { IsHeld (folded_labels owner.now) kind result.now }
         ensures rising { IsRising self.now }
     {
         // That the owner is a name is a clause of `wire`.
@@ -66,6 +68,16 @@ impl Sets {
     {
         let _wire = owner.wire();
         self.map.insert(SetKey::new(owner, kind), set)?;
+        Ok(())
+    }
+
+    /// Appends copies of the records.
+    pub(crate) fn copy_to(&self, alloc: Global, to: &mut Records) -> Result<(), MemoryFault>
+        ensures { OnOk result (to.new ≡ to.old ++ self.now) }
+    {
+        for set in self.map.values() {
+            copy_all(alloc, set.as_slice(), to)?;
+        }
         Ok(())
     }
 

@@ -1,5 +1,6 @@
 -- The lines of a printed report (this project's own).
-use Rattle.std.specs.Prelude.{ℕ, ◌-◌, ◌==◌, nat_lt, if◌then◌else◌, List, [], ◌∷◌, ◌++◌, length, codes, decimal, flat_map, slice_get, unwrap_or, Option, Some, None}
+use Rattle.std.specs.Prelude.{ℕ, ◌-◌, ◌==◌, nat_lt, if◌then◌else◌, List, [], ◌∷◌, ◌++◌, length, codes, decimal}
+use Rattle.std.specs.Prelude.{flat_map, slice_get, unwrap_or, Option, Some, None}
 use Rattle.dns_name.specs.Name.{folded_labels}
 use Rattle.dns_name.specs.Text.{text_of}
 use Rattle.ddds_walk.specs.declared.report.End.{End}

@@ -43,8 +43,8 @@ none : (app : AppName) (values : OptionName → List ℕ) (row : Row) → Contai
     → count_in (request_of row.command app values) ≡ 0
 none app values row has =
     eqb-true (count_in (request_of row.command app values)) 0
-        (All-contains (λ row. has_none app values row ≡ true) others row
-            (AllPass-from_list_all (has_none app values) others (others-none app values)) has)
+    (All-contains (λ row. has_none app values row ≡ true) others row
+    (AllPass-from_list_all (has_none app values) others (others-none app values)) has)
 
 pub few_apexes : (words : List (List ℕ)) (asked : Resolution) → Means words (Resolve asked) → asked.apexes.count ≤ 8
 few_apexes words asked m = subst (λ (n : ℕ). n ≤ 8) (sym (ap count_in m.is)) (by_row m.row m.listed m.spelled)

@@ -18,7 +18,8 @@ use Rattle.zone_build.proofs.SizeLemmas.{one_set}
 use Rattle.zone_db.specs.Bits.{header_of}
 use Rattle.zone_db.specs.LookUp.{Decides, Shown, shown}
 use Rattle.zone_db.specs.LookUp.Shown.{outside, cut_of, alias_of, set_of, no_set, no_name}
-use Rattle.zone_db.specs.Replies.{Adds, AddressesOf, Comes, Finds, Follows, IsDrafted, IsGlue, IsNegative, IsPosted, IsReply, IsSent, IsSpoken, Plan, Refers, says, looks_up, draft_with, is_authoritative, limit_of, nothing, options_heard, owned_by, plan_of, without_glue, without_records}
+use Rattle.zone_db.specs.Replies.{Adds, AddressesOf, Comes, Finds, Follows, IsDrafted, IsGlue, IsNegative, IsPosted}
+use Rattle.zone_db.specs.Replies.{IsReply, IsSent, IsSpoken, Plan, Refers, says, looks_up, draft_with, is_authoritative, limit_of, nothing, options_heard, owned_by, plan_of, without_glue, without_records}
 use Rattle.zone_db.specs.Sets.{AreZones}
 use Rattle.zone_db.specs.declared.draft.Added.{Added}
 use Rattle.zone_db.specs.declared.draft.Draft.{Draft}
@@ -67,11 +68,11 @@ one_referral zones name set added added' (zone, glue, decides, is, e) (zone', gl
     e ∙ ap (referred set) same ∙ sym e'
 
 abbrev told_for : Record → Soa → Record
-told_for start soa = record start { ttl = min start.ttl soa.minimum }
+told_for the_soa soa = record the_soa { ttl = min the_soa.ttl soa.minimum }
 
-one_negative : (start told told' : Record) → IsNegative start told → IsNegative start told' → told ≡ told'
-one_negative start told told' (soa, tells, is) (soa', tells', is') =
-    is ∙ ap (told_for start) (one_soa soa soa' (sym tells ∙ tells')) ∙ sym is'
+one_negative : (the_soa told told' : Record) → IsNegative the_soa told → IsNegative the_soa told' → told ≡ told'
+one_negative the_soa told told' (soa, tells, is) (soa', tells', is') =
+    is ∙ ap (told_for the_soa) (one_soa soa soa' (sym tells ∙ tells')) ∙ sym is'
 
 -- what follows an alias is one
 abbrev IsOneFurther : (Labels → Added → Type 0) → Type 0
@@ -94,10 +95,10 @@ one_added Further zones name code (alias_of set) added added' one (r, target, re
     let rests : rest ≡ rest' = one target rest rest' more (subst (λ t. Further t rest') targets more') in
     e ∙ ap (aliased name set) rests ∙ sym e'
 one_added Further zones name code (set_of set) added added' one e e' = e ∙ sym e'
-one_added Further zones name code (no_set start) added added' one (told, n, e) (told', n', e') =
-    e ∙ ap (negative_with 0) (one_negative start told told' n n') ∙ sym e'
-one_added Further zones name code (no_name start) added added' one (told, n, e) (told', n', e') =
-    e ∙ ap (negative_with 3) (one_negative start told told' n n') ∙ sym e'
+one_added Further zones name code (no_set the_soa) added added' one (told, n, e) (told', n', e') =
+    e ∙ ap (negative_with 0) (one_negative the_soa told told' n n') ∙ sym e'
+one_added Further zones name code (no_name the_soa) added added' one (told, n, e) (told', n', e') =
+    e ∙ ap (negative_with 3) (one_negative the_soa told told' n n') ∙ sym e'
 
 one_follow : (zones : List Zone) (kind left : ℕ) (seen : List Labels) → AreZones zones → IsOneFurther (Follows zones kind left seen)
 one_follow zones kind zero seen are target one other e e' = e ∙ sym e'

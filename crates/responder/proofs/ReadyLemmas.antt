@@ -18,7 +18,7 @@ use Rattle.zone_db.specs.Sets.{AreZones}
 use Rattle.zone_db.specs.declared.found.Found.{Found}
 use Rattle.zone_db.specs.declared.found.Found.TheVariants as found
 use Rattle.zone_db.proofs.OfferLemmas.{found_is_readable}
-use Rattle.responder.specs.Ready.{IsAliasOf, IsReady, TellsServer, TellsStart}
+use Rattle.responder.specs.Ready.{IsAliasOf, IsReady, TellsServer, TellsSoa}
 
 -- a list that is one alias, by its first record
 pub alias_target : (set : List Record) (first : Record) (target target' : Labels) → IsAliasOf set target
@@ -31,7 +31,7 @@ ns_content : (c : Content) → kind_of c ≡ ns → IsTrue (is_whole c) → (ser
 ns_content (content.A address) e w = absurd (omega (arith, e))
 ns_content (content.Ns server) e w = (server, refl)
 ns_content (content.Cname target) e w = absurd (omega (arith, e))
-ns_content (content.Soa start) e w = absurd (omega (arith, e))
+ns_content (content.Soa the_soa) e w = absurd (omega (arith, e))
 ns_content (content.Ptr name) e w = absurd (omega (arith, e))
 ns_content (content.Mx preference exchange) e w = absurd (omega (arith, e))
 ns_content (content.Txt texts) e w = absurd (omega (arith, e))
@@ -41,11 +41,11 @@ ns_content (content.Naptr r) e w = absurd (omega (arith, e))
 ns_content (content.Opt options) e w = absurd (cc)
 ns_content (content.Raw bytes) e w = absurd (cc)
 
-soa_content : (c : Content) → kind_of c ≡ soa → IsTrue (is_whole c) → (start : Soa) × (c ≡ content.Soa start)
+soa_content : (c : Content) → kind_of c ≡ soa → IsTrue (is_whole c) → (the_soa : Soa) × (c ≡ content.Soa the_soa)
 soa_content (content.A address) e w = absurd (omega (arith, e))
 soa_content (content.Ns server) e w = absurd (omega (arith, e))
 soa_content (content.Cname target) e w = absurd (omega (arith, e))
-soa_content (content.Soa start) e w = (start, refl)
+soa_content (content.Soa the_soa) e w = (the_soa, refl)
 soa_content (content.Ptr name) e w = absurd (omega (arith, e))
 soa_content (content.Mx preference exchange) e w = absurd (omega (arith, e))
 soa_content (content.Txt texts) e w = absurd (omega (arith, e))
@@ -59,8 +59,8 @@ soa_content (content.Raw bytes) e w = absurd (cc)
 kind_of_record : (zone : Zone) (one : Record) → IsValid zone → Contains zone.records one → one.kind ≡ kind_of one.content
 kind_of_record zone one valid c = kind_is one.content one.kind one.class one.belongs (valid.plain one c).whole
 
-tells_start : (zone : Zone) (one : Record) → IsValid zone → Contains zone.records one → one.kind ≡ soa → TellsStart one
-tells_start zone one valid c is = soa_content one.content (sym (kind_of_record zone one valid c) ∙ is) (valid.plain one c).whole
+tells_soa : (zone : Zone) (one : Record) → IsValid zone → Contains zone.records one → one.kind ≡ soa → TellsSoa one
+tells_soa zone one valid c is = soa_content one.content (sym (kind_of_record zone one valid c) ∙ is) (valid.plain one c).whole
 
 -- each of these records of a zone is an NS record
 tell_servers : (zone : Zone) (owner : Labels) (set : List Record) → IsValid zone → ((one : Record) → Contains set one → Contains zone.records one)
@@ -92,7 +92,7 @@ found_ready zones name kind (found.Alias set) are is =
     let (one, target, only, tells) = found_is_readable zones name kind (found.Alias set) are is in (target, (one, only, tells))
 found_ready zones name kind (found.Set set) are (zone, source, answered, served, not, is, one) =
     (valid_of zones zone are served.decides.among).small source answered set.now one
-found_ready zones name kind (found.NoSet start) are (zone, source, served, exists, not, none, is) =
-    tells_start zone start.now (valid_of zones zone are served.decides.among) is.0 is.1
-found_ready zones name kind (found.NoName start) are (zone, source, served, not, is) =
-    tells_start zone start.now (valid_of zones zone are served.decides.among) is.0 is.1
+found_ready zones name kind (found.NoSet the_soa) are (zone, source, served, exists, not, none, is) =
+    tells_soa zone the_soa.now (valid_of zones zone are served.decides.among) is.0 is.1
+found_ready zones name kind (found.NoName the_soa) are (zone, source, served, not, is) =
+    tells_soa zone the_soa.now (valid_of zones zone are served.decides.among) is.0 is.1

@@ -9,7 +9,8 @@ use Rattle.dns_wire.specs.declared.message.Message.{Message}
 use Rattle.dns_wire.specs.declared.record.Record.{Record}
 use Rattle.zone_build.specs.Zone.{Zone}
 use Rattle.zone_db.specs.Bits.{tc_of, opcode_of, rd_of, bit, header_of, u16_at}
-use Rattle.zone_db.specs.Replies.{Fits, IsMessageOf, IsPosted, IsSent, IsDrafted, Comes, bare, limit_of, plan_of, options_heard, options_for, questions_of, reply_header, without_glue, without_records}
+use Rattle.zone_db.specs.Replies.{Fits, IsMessageOf, IsPosted, IsSent, IsDrafted, Comes, bare, limit_of, plan_of}
+use Rattle.zone_db.specs.Replies.{options_heard, options_for, questions_of, reply_header, without_glue, without_records}
 use Rattle.zone_db.specs.declared.draft.Draft.{Draft}
 use Rattle.zone_db.specs.declared.way.Way.{Way}
 use Rattle.responder.specs.Answering.{IsWhole, Posts, Sends, Speaks}
@@ -18,7 +19,8 @@ use Rattle.responder.specs.Sizes.{size, base_size}
 use Rattle.responder.proofs.SizeLemmas.{small_counted, message_size}
 
 -- what has more bytes does not fit
-pub not_fits : (limit : ℕ) (query : Header) (options : Option Record) (draft : Draft) → limit < base_size options draft + size draft.glue → ¬ Fits limit query options draft
+pub not_fits : (limit : ℕ) (query : Header) (options : Option Record) (draft : Draft)
+    → limit < base_size options draft + size draft.glue → ¬ Fits limit query options draft
 not_fits limit query options draft more (message, parts, few) = absurd (omega (arith, more, few, message_size query options false draft message parts))
 
 pub fits : (limit : ℕ) (query : Header) (options : Option Record) (draft : Draft) (bytes : List ℕ) → base_size options draft + size draft.glue ≤ limit

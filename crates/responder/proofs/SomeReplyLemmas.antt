@@ -18,10 +18,11 @@ use Rattle.dns_wire.proofs.LawLemmas.{message_or_break}
 use Rattle.dns_wire.proofs.MessageStandLemmas.{reads_back}
 use Rattle.zone_build.specs.Zone.{Zone, IsSet, IsValid}
 use Rattle.zone_build.proofs.ListLemmas.{AllByRecursion-made}
-use Rattle.zone_build.proofs.MakeZoneLemmas.{some_set}
+use Rattle.zone_build.proofs.ZoneOrFaultLemmas.{some_set}
 use Rattle.zone_db.specs.Bits.{IsSilent, header_of, qr_of, bit}
 use Rattle.zone_db.specs.LookUp.{IsFound, shown}
-use Rattle.zone_db.specs.Replies.{Adds, AddressesOf, Comes, Finds, Follows, IsDrafted, IsGlue, IsMessageOf, IsNegative, IsPosted, IsReply, IsSent, Plan, says, looks_up, bare, draft_with, is_authoritative, limit_of, nothing, options_for, options_heard, owned_by, plan_of, questions_of, reply_header, reply_options, without_glue, without_records}
+use Rattle.zone_db.specs.Replies.{Adds, AddressesOf, Comes, Finds, Follows, IsDrafted, IsGlue, IsMessageOf}
+use Rattle.zone_db.specs.Replies.{IsNegative, IsPosted, IsReply, IsSent, Plan, says, looks_up, bare, draft_with, is_authoritative, limit_of, nothing, options_for, options_heard, owned_by, plan_of, questions_of, reply_header, reply_options, without_glue, without_records}
 use Rattle.zone_db.specs.Sets.{AreZones}
 use Rattle.zone_db.specs.declared.draft.Added.{Added}
 use Rattle.zone_db.specs.declared.draft.Draft.{Draft}
@@ -30,7 +31,7 @@ use Rattle.zone_db.specs.declared.found.Found.TheVariants as found
 use Rattle.zone_db.specs.declared.way.Way.{Way}
 use Rattle.zone_db.specs.declared.way.Way.TheVariants.{Datagram, Stream}
 use Rattle.zone_db.proofs.SomeFoundLemmas.{some_found}
-use Rattle.responder.specs.Ready.{TellsServer, TellsStart}
+use Rattle.responder.specs.Ready.{TellsServer, TellsSoa}
 use Rattle.responder.specs.Laws.{AreInRange}
 use Rattle.responder.specs.Sizes.{size, base_size}
 use Rattle.responder.proofs.QuestionLemmas.{IsOfCodes, IsPlanOf, query_planned, spelt_questions}
@@ -100,7 +101,7 @@ some_addresses zones zone cut server ranged among valid = elim (below_or_not ser
         four.0 ++ six.0,
         inl (below, (four.0, six.0, four.1, six.1, refl)),
         AllByRecursion-append IsRecord four.0 six.0 (set_ranged zones zone server a four.0 ranged among four.1)
-        (set_ranged zones zone server aaaa six.0 ranged among six.1),
+            (set_ranged zones zone server aaaa six.0 ranged among six.1),
       )
   | inr not ↦ ([], inr (not, refl), tt)
 ]
@@ -121,9 +122,9 @@ some_glue zones zone (one ∷ set) ranged among valid tells =
       AllByRecursion-append IsRecord first.0 more.0 first.2 more.2,
     )
 
-some_negative : (start : Record) → IsRecord start → TellsStart start → (told : Record) × IsNegative start told × IsRecord told
-some_negative start ranged (soa, tells) = (
-  record start { ttl = min start.ttl soa.minimum },
+some_negative : (the_soa : Record) → IsRecord the_soa → TellsSoa the_soa → (told : Record) × IsNegative the_soa told × IsRecord told
+some_negative the_soa ranged (soa, tells) = (
+  record the_soa { ttl = min the_soa.ttl soa.minimum },
   (soa, tells, refl),
   record {
     owner = ranged.owner;
@@ -175,16 +176,16 @@ some_added Further zones name kind code (found.Set set) are ranged named few (zo
     glue = tt;
   },
 )
-some_added Further zones name kind code (found.NoSet start) are ranged named few (zone, source, served, exists, not, none, here) more =
-    let tells = found_ready zones name kind (found.NoSet start) are (zone, source, served, exists, not, none, here) in
-    let told = some_negative start.now (ranged zone start.now served.decides.among here.0) tells in (
+some_added Further zones name kind code (found.NoSet the_soa) are ranged named few (zone, source, served, exists, not, none, here) more =
+    let tells = found_ready zones name kind (found.NoSet the_soa) are (zone, source, served, exists, not, none, here) in
+    let told = some_negative the_soa.now (ranged zone the_soa.now served.decides.among here.0) tells in (
       record (nothing 0) { authority = told.0 ∷ [] },
       (told.0, told.1, refl),
       record { code = omega arith; answers = tt; authority = (told.2, tt); glue = tt },
     )
-some_added Further zones name kind code (found.NoName start) are ranged named few (zone, source, served, not, here) more =
-    let tells = found_ready zones name kind (found.NoName start) are (zone, source, served, not, here) in
-    let told = some_negative start.now (ranged zone start.now served.decides.among here.0) tells in (
+some_added Further zones name kind code (found.NoName the_soa) are ranged named few (zone, source, served, not, here) more =
+    let tells = found_ready zones name kind (found.NoName the_soa) are (zone, source, served, not, here) in
+    let told = some_negative the_soa.now (ranged zone the_soa.now served.decides.among here.0) tells in (
       record (nothing 3) { authority = told.0 ∷ [] },
       (told.0, told.1, refl),
       record { code = omega arith; answers = tt; authority = (told.2, tt); glue = tt },
@@ -332,8 +333,13 @@ sent_no_glue : (limit : ℕ) (query : Header) (options : Option Record) (draft :
 sent_no_glue limit query options draft most ranged said more few =
     let rest : IsSayable (without_glue draft) =
     record { code = said.code; question = said.question; answers = said.answers; authority = said.authority; glue = tt } in
-    let posted = some_posted query options false (without_glue draft) ranged rest (omega (arith, most, few)) in
-    (posted.0, inr (not_fits limit query options draft more, inl (fits limit query options (without_glue draft) posted.0 (omega (arith, few)) posted.1, posted.1)))
+    let posted = some_posted query options false (without_glue draft) ranged rest (omega (arith, most, few)) in (
+      posted.0,
+      inr (
+        not_fits limit query options draft more,
+        inl (fits limit query options (without_glue draft) posted.0 (omega (arith, few)) posted.1, posted.1),
+      ),
+    )
 
 sent_whole : (limit : ℕ) (query : Header) (options : Option Record) (draft : Draft) → limit ≤ 65_535 → IsHeader query → IsSayable draft
     → base_size options draft + size draft.glue ≤ limit → HasSent limit query options draft
@@ -347,9 +353,9 @@ some_sent limit query options draft most ranged said =
     elim (less_or_not limit (base_size options draft + size draft.glue)) [
       | inr few ↦ sent_whole limit query options draft most ranged said few
       | inl more ↦ elim (less_or_not limit (base_size options draft)) [
-          | inr few ↦ sent_no_glue limit query options draft most ranged said more few
-          | inl more' ↦ sent_short limit query options draft ranged said more'
-        ]
+        | inr few ↦ sent_no_glue limit query options draft most ranged said more few
+        | inl more' ↦ sent_short limit query options draft ranged said more'
+      ]
     ]
 
 limit_most : (way : Way) (options : Option Record) → limit_of way options ≤ 65_535

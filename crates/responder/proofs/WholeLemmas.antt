@@ -19,7 +19,8 @@ use Rattle.dns_wire.specs.declared.record.Record.{Record}
 use Rattle.zone_build.specs.Zone.{Zone, weight}
 use Rattle.zone_db.specs.Bits.{tc_of, header_of}
 use Rattle.zone_db.specs.LookUp.{IsFound, shown}
-use Rattle.zone_db.specs.Replies.{Adds, Comes, Finds, Follows, IsDrafted, IsNegative, IsReply, Plan, says, looks_up, bare, draft_with, is_authoritative, options_for, owned_by, plan_of}
+use Rattle.zone_db.specs.Replies.{Adds, Comes, Finds, Follows, IsDrafted, IsNegative, IsReply, Plan, says, looks_up}
+use Rattle.zone_db.specs.Replies.{bare, draft_with, is_authoritative, options_for, owned_by, plan_of}
 use Rattle.zone_db.specs.Sets.{AreZones}
 use Rattle.zone_db.specs.declared.draft.Added.{Added}
 use Rattle.zone_db.specs.declared.draft.Draft.{Draft}
@@ -87,11 +88,11 @@ soa_small soa ranged =
     )
 
 -- an SOA is small
-start_small : (start told : Record) → IsRecord start → IsNegative start told → size (told ∷ []) ≤ 795
-start_small start told ranged (soa, tells, is) =
+negative_small : (the_soa told : Record) → IsRecord the_soa → IsNegative the_soa told → size (told ∷ []) ≤ 795
+negative_small the_soa told ranged (soa, tells, is) =
     let fields : IsSoa soa = subst IsContent tells ranged.content in
     let content : told.content ≡ content.Soa soa = ap (λ (x : Record). x.content) is ∙ tells in
-    let owner : told.owner ≡ start.owner = ap (λ (x : Record). x.owner) is in
+    let owner : told.owner ≡ the_soa.owner = ap (λ (x : Record). x.owner) is in
     let whole : size (told ∷ []) ≡ length (record_wire told ++ []) = ap length (flat_map-cons record_wire told []) in
     omega (
       arith,
@@ -110,12 +111,14 @@ adds_size : (Further : Labels → Added → Type 0) (zones : List Zone) (name : 
     → ((target : Labels) (rest : Added) → IsShort target → Further target rest → added_size rest ≤ most)
     → Adds Further zones name code (shown what) added → added_size added ≤ most + 520
 adds_size Further zones name kind code most found.Outside added are ranged is short low more e = omega (arith, low, ap added_size e)
-adds_size Further zones name kind code most (found.Cut set) added are ranged (zone, owner, decides, highest, cut) short low more (zone', glue, decides', is_glue, e) =
+adds_size Further zones name kind code most (found.Cut set) added are ranged (zone, owner, decides, highest, cut) short low more
+    (zone', glue, decides', is_glue, e) =
     let few : weight set.now ≤ 60_000 = (found_ready zones name kind (found.Cut set) are (zone, owner, decides, highest, cut)).1 in
     let small : size set.now ≤ weight set.now =
     kept_small set.now (λ one c. (ranged zone one decides.among (in_set zone.records owner 2 set.now one cut c)).owner.short) in
     omega (arith, low, few, small, ap added_size e)
-adds_size Further zones name kind code most (found.Alias set) added are ranged (zone, source, served, meets, here) short low more (one, target, rest, only, tells, further, e) =
+adds_size Further zones name kind code most (found.Alias set) added are ranged (zone, source, served, meets, here) short low more
+    (one, target, rest, only, tells, further, e) =
     let among : Contains zone.records one =
     in_set zone.records source cname set.now one here (subst (λ l. Contains l one) (sym only) (Contains-head one [])) in
     let named : IsName target = subst IsContent tells (ranged zone one served.decides.among among).content in
@@ -131,10 +134,10 @@ adds_size Further zones name kind code most (found.Alias set) added are ranged (
 adds_size Further zones name kind code most (found.Set set) added are ranged is short low more e =
     let few : weight set.now ≤ 60_000 = found_ready zones name kind (found.Set set) are is in
     omega (arith, low, few, owned_small name set.now short, ap added_size e)
-adds_size Further zones name kind code most (found.NoSet start) added are ranged (zone, source, served, exists, not, none, here) short low more (told, n, e) =
-    omega (arith, low, start_small start.now told (ranged zone start.now served.decides.among here.0) n, ap added_size e)
-adds_size Further zones name kind code most (found.NoName start) added are ranged (zone, source, served, not, here) short low more (told, n, e) =
-    omega (arith, low, start_small start.now told (ranged zone start.now served.decides.among here.0) n, ap added_size e)
+adds_size Further zones name kind code most (found.NoSet the_soa) added are ranged (zone, source, served, exists, not, none, here) short low more (told, n, e) =
+    omega (arith, low, negative_small the_soa.now told (ranged zone the_soa.now served.decides.among here.0) n, ap added_size e)
+adds_size Further zones name kind code most (found.NoName the_soa) added are ranged (zone, source, served, not, here) short low more (told, n, e) =
+    omega (arith, low, negative_small the_soa.now told (ranged zone the_soa.now served.decides.among here.0) n, ap added_size e)
 
 follow_size : (zones : List Zone) (kind left : ℕ) (seen : List Labels) (target : Labels) (added : Added) → AreZones zones → AreInRange zones
     → IsShort target → Follows zones kind left seen target added → added_size added ≤ 520 * left + 60_000

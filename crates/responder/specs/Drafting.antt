@@ -38,7 +38,7 @@ IsReferral zone set added =
 
 -- what is added where something is not there
 abbrev pub AddsNegative : Record → ℕ → Added → Type 0
-AddsNegative start code added = (told : Record) × IsNegative start told × (added ≡ record (nothing code) { authority = told ∷ [] })
+AddsNegative the_soa code added = (told : Record) × IsNegative the_soa told × (added ≡ record (nothing code) { authority = told ∷ [] })
 
 -- an alias is followed by what was looked up for its target, or by nothing
 abbrev pub most_added : ℕ → ℕ

@@ -14,8 +14,8 @@ abbrev pub TellsServer : Record → Type 0
 TellsServer one = (server : Labels) × (one.content ≡ content.Ns server)
 
 -- a record is an SOA
-abbrev pub TellsStart : Record → Type 0
-TellsStart one = (soa : Soa) × (one.content ≡ content.Soa soa)
+abbrev pub TellsSoa : Record → Type 0
+TellsSoa one = (soa : Soa) × (one.content ≡ content.Soa soa)
 
 -- a set is one CNAME with that target
 abbrev pub IsAliasOf : List Record → Labels → Type 0
@@ -27,5 +27,5 @@ IsReady found.Outside = ⊤
 IsReady (found.Cut set) = AllByRecursion TellsServer set.now × (weight set.now ≤ 60_000)
 IsReady (found.Alias set) = (target : Labels) × IsAliasOf set.now target
 IsReady (found.Set set) = weight set.now ≤ 60_000
-IsReady (found.NoSet start) = TellsStart start.now
-IsReady (found.NoName start) = TellsStart start.now
+IsReady (found.NoSet the_soa) = TellsSoa the_soa.now
+IsReady (found.NoName the_soa) = TellsSoa the_soa.now

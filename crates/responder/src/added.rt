@@ -8,10 +8,10 @@ ghost use Rattle.zone_db.specs.LookUp.{IsFound, shown};
 ghost use Rattle.zone_db.specs.Replies.{Adds, Follows, IsGlue, IsNegative, Refers, nothing, owned_by};
 ghost use Rattle.zone_db.specs.declared.found.Found.TheVariants as f;
 ghost use Rattle.responder.specs.Drafting.{AddsNegative, IsReferral, added_size, most_added};
-ghost use Rattle.responder.specs.Ready.{IsAliasOf, TellsServer, TellsStart};
+ghost use Rattle.responder.specs.Ready.{IsAliasOf, TellsServer, TellsSoa};
 ghost use Rattle.responder.specs.Sizes.{size};
 
-use crate::copies::{copies, negative_start, owned_by};
+use crate::copies::{copies, negative_soa, owned_by};
 use crate::glue::glue_of;
 use crate::laws::found_is_ready;
 use crate::plan::NXDOMAIN;
@@ -62,8 +62,8 @@ pub(crate) fn added_for(
             with_alias(alloc, &question.name, set, rest)
         }
         Found::Set(set) => set_added(alloc, zones, question, set),
-        Found::NoSet(start) => no_set_added(alloc, zones, question, start),
-        Found::NoName(start) => no_name_added(alloc, zones, question, start),
+        Found::NoSet(soa) => no_set_added(alloc, zones, question, soa),
+        Found::NoName(soa) => no_name_added(alloc, zones, question, soa),
     }
 }
 
@@ -191,15 +191,15 @@ fn no_set_added(
     alloc: Global,
     zones: &ZoneSet,
     question: &Question,
-    start: &Record,
+    soa: &Record,
 ) -> Result<Added, MemoryFault>
-    requires { IsFound zones.now question.now.name question.now.kind (f.NoSet start) }
-    ensures added { IfOk result (AddsNegative start.now 0) }
+    requires { IsFound zones.now question.now.name question.now.kind (f.NoSet soa) }
+    ensures added { IfOk result (AddsNegative soa.now 0) }
     ensures size { IfOk result (λ added. added_size added ≤ 60_000) }
 {
     let _zones = zones.zones();
     found_is_ready();
-    negative(alloc, start, 0)
+    negative(alloc, soa, 0)
 }
 
 // The SOA and NXDOMAIN, where the name does not exist.
@@ -207,24 +207,24 @@ fn no_name_added(
     alloc: Global,
     zones: &ZoneSet,
     question: &Question,
-    start: &Record,
+    soa: &Record,
 ) -> Result<Added, MemoryFault>
-    requires { IsFound zones.now question.now.name question.now.kind (f.NoName start) }
-    ensures added { IfOk result (AddsNegative start.now 3) }
+    requires { IsFound zones.now question.now.name question.now.kind (f.NoName soa) }
+    ensures added { IfOk result (AddsNegative soa.now 3) }
     ensures size { IfOk result (λ added. added_size added ≤ 60_000) }
 {
     let _zones = zones.zones();
     found_is_ready();
-    negative(alloc, start, NXDOMAIN)
+    negative(alloc, soa, NXDOMAIN)
 }
 
 // A code, and an SOA that goes with it.
-fn negative(alloc: Global, start: &Record, code: u8) -> Result<Added, MemoryFault>
-    requires { TellsStart start.now }
-    ensures added { IfOk result (AddsNegative start.now code) }
+fn negative(alloc: Global, soa: &Record, code: u8) -> Result<Added, MemoryFault>
+    requires { TellsSoa soa.now }
+    ensures added { IfOk result (AddsNegative soa.now code) }
     ensures size { IfOk result (λ added. added_size added ≤ 60_000) }
 {
-    let told = negative_start(alloc, start)?;
+    let told = negative_soa(alloc, soa)?;
     let mut added = nothing(alloc, code);
     added.authority.push(told)?;
     Ok(added)

@@ -5,7 +5,7 @@ ghost use Rattle.dns_wire.specs.Rdata.{rdata_of};
 ghost use Rattle.dns_wire.specs.declared.content.Content.TheVariants as content;
 ghost use Rattle.zone_build.specs.Zone.{weight};
 ghost use Rattle.zone_db.specs.Replies.{IsNegative, owned_by};
-ghost use Rattle.responder.specs.Ready.{TellsStart};
+ghost use Rattle.responder.specs.Ready.{TellsSoa};
 ghost use Rattle.responder.specs.Sizes.{size};
 
 use dns_name::Name;
@@ -81,17 +81,17 @@ pub(crate) fn push_copies(
 }
 
 /// The SOA, with the time for which it may be kept that something is not there.
-pub(crate) fn negative_start(alloc: Global, start: &Record) -> Result<Record, MemoryFault>
-    requires { TellsStart start.now }
-    ensures told { IfOk result (IsNegative start.now) }
+pub(crate) fn negative_soa(alloc: Global, soa: &Record) -> Result<Record, MemoryFault>
+    requires { TellsSoa soa.now }
+    ensures told { IfOk result (IsNegative soa.now) }
     ensures size { IfOk result (λ told. length (record_wire told) ≤ 60_000) }
 {
-    let mut told = start.copy(alloc)?;
-    let _wire = start.owner.wire();
-    if let Content::Soa(soa) = &start.content {
-        let _mname = soa.mname.wire();
-        let _rname = soa.rname.wire();
-        told.ttl = start.ttl.min(soa.minimum);
+    let mut told = soa.copy(alloc)?;
+    let _wire = soa.owner.wire();
+    if let Content::Soa(fields) = &soa.content {
+        let _mname = fields.mname.wire();
+        let _rname = fields.rname.wire();
+        told.ttl = soa.ttl.min(fields.minimum);
     }
     Ok(told)
 }

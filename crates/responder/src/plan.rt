@@ -1,7 +1,8 @@
 //! What is done with a query.
 ghost use Rattle.std.specs.Prelude.{◌≡◌, length, filter, option_map};
 ghost use Rattle.std.specs.List.{list_all};
-ghost use Rattle.zone_db.specs.Replies.{are_options, is_at_root, is_refused, options_heard, options_of, plan_of, plan_of_one, plan_of_questions, strays, version_of};
+ghost use Rattle.zone_db.specs.Replies.{are_options, is_at_root, is_refused, options_heard, options_of, plan_of};
+ghost use Rattle.zone_db.specs.Replies.{plan_of_one, plan_of_questions, strays, version_of};
 ghost use Rattle.responder.specs.Drafting.{plan_as};
 
 use crate::bits::opcode_of;

@@ -1,5 +1,6 @@
 -- What provisioning asks of a REGEXP, told by its bytes.
-use Rattle.std.proofs.Common.{◌≡◌, ◌≢◌, ◌⊎◌, inl, inr, ℕ, List, [], ◌∷◌, ◌++◌, Bool, true, false, not, ◌==◌, cond, Result, Ok, Err, IsTrue, ◌↔◌, ◌<◌, Option, Some, None, arith, refl, sym, ap, subst, ◌∙◌}
+use Rattle.std.proofs.Common.{◌≡◌, ◌≢◌, ◌⊎◌, inl, inr, ℕ, List, [], ◌∷◌, ◌++◌, Bool, true, false, not, ◌==◌, cond}
+use Rattle.std.proofs.Common.{Result, Ok, Err, IsTrue, ◌↔◌, ◌<◌, Option, Some, None, arith, refl, sym, ap, subst, ◌∙◌}
 use Rattle.std.specs.List.{AllPass, list_all}
 use Rattle.std.proofs.lemmas.Bool.{ne_eqb}
 use Rattle.std.proofs.lemmas.List.Sums.{list_all-from_AllPass}
@@ -66,7 +67,8 @@ pub same_of : (s r : Subst) → ◌≡◌ {A = Result Subst SubstFault} (Ok s) (
 same_of s r e = cc
 
 -- .. and nowhere else
-pub scheme_iff : SplitHasPieces → (text : List ℕ) (s : Subst) (t : Bool) → Splits text (Ok s) → ((other : Result Subst SubstFault) → Splits text other → Ok s ≡ other)
+pub scheme_iff : SplitHasPieces → (text : List ℕ) (s : Subst) (t : Bool) → Splits text (Ok s)
+    → ((other : Result Subst SubstFault) → Splits text other → Ok s ≡ other)
     → (IsTrue t ↔ BeginsWithScheme (literal_from false s.repl)) → IsTrue t ↔ HasScheme text
 scheme_iff pieces_of text s t split only iff = (λ h. scheme_told pieces_of text s split (iff.0 h), back)
   where

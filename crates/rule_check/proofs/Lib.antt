@@ -1,5 +1,5 @@
 pub mod UriLemmas
-pub mod Deciding
+pub mod DecideLemmas
 pub mod CheckLemmas
 pub mod OneFaultLemmas
 pub mod SomeFaultLemmas

@@ -1,10 +1,9 @@
 -- A rule has one first fault at most, and a well-formed one has none.
-use Rattle.std.proofs.Common.{◌≡◌, ◌≢◌, ◌⊎◌, inl, inr, ℕ, ◌<◌, [], Some, None, refl, sym, ap, ◌∙◌, arith}
+use Rattle.std.proofs.Common.{◌≡◌, ◌⊎◌, inl, inr, ℕ, ◌<◌, Some, refl, sym, ap, ◌∙◌, arith}
 use Rattle.naptr_rule.specs.declared.rule.Naptr.{Naptr}
 use Rattle.service_field.specs.Applications.{Meaning}
-use Rattle.service_field.specs.declared.fault.ServiceFault.{ServiceFault}
 use Rattle.subst_expr.specs.Laws.{OneFault, WellFormedHasNoFault}
-use Rattle.rule_check.specs.WellFormed.{HasFault, IsFirstFault, IsWellFormedRule, OneRuleFault, WellFormedHasNoRuleFault, number}
+use Rattle.rule_check.specs.WellFormed.{HasFault, OneRuleFault, WellFormedHasNoRuleFault, number}
 use Rattle.rule_check.specs.declared.fault.RuleFault.{RuleFault}
 use Rattle.rule_check.specs.declared.fault.RuleFault.TheVariants as fault
 use Rattle.rule_check.proofs.CheckLemmas.{no_earlier}

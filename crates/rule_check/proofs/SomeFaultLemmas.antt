@@ -1,5 +1,6 @@
 -- Each rule is well formed or has a first fault.
-use Rattle.std.proofs.Common.{◌≡◌, ◌≢◌, ◌⊎◌, inl, inr, ℕ, ◌<◌, ◌==◌, not, Bool, true, false, List, [], ◌∷◌, ◌++◌, Option, Some, None, Result, Ok, Err, refl, sym, ap, subst, ◌∙◌, arith}
+use Rattle.std.proofs.Common.{◌≡◌, ◌≢◌, ◌⊎◌, inl, inr, ℕ, ◌<◌, ◌==◌, not, Bool, true, false, List, [], ◌∷◌, ◌++◌}
+use Rattle.std.proofs.Common.{Option, Some, None, Result, Ok, Err, refl, sym, ap, subst, ◌∙◌, arith}
 use Rattle.std.specs.List.{list_all}
 use Rattle.std.specs.Prelude.{codes}
 use Rattle.naptr_data.proofs.DecideLemmas.{Either, lists, numbers}
@@ -16,11 +17,12 @@ use Rattle.subst_expr.specs.declared.regexp.RegexpFault.TheVariants as regexp
 use Rattle.subst_expr.specs.declared.subst.Subst.{Subst}
 use Rattle.rule_check.specs.Checking.{HasUriForm, IsUriFault, literal_from}
 use Rattle.rule_check.specs.Fields.{HasFields}
-use Rattle.rule_check.specs.WellFormed.{BeginsWithScheme, HasFault, HasGoodServices, HasScheme, HasWhole, IsFirstFault, IsWellFormedRule, TakesWhole, WellFormedOrFault, number}
+use Rattle.rule_check.specs.WellFormed.{BeginsWithScheme, HasFault, HasGoodServices, HasScheme, HasWhole}
+use Rattle.rule_check.specs.WellFormed.{IsFirstFault, IsWellFormedRule, TakesWhole, WellFormedOrFault, number}
 use Rattle.rule_check.specs.declared.fault.RuleFault.{RuleFault}
 use Rattle.rule_check.specs.declared.fault.RuleFault.TheVariants as fault
 use Rattle.rule_check.proofs.CheckLemmas.{before_regexp, before_services, same_of, scheme_cut, scheme_none, scheme_there, scheme_told, uri_first}
-use Rattle.rule_check.proofs.Deciding.{HasColon, both, cut_or_plain, is_empty, is_true, one_of, regexp_or_not, replacement_or_not, scheme_or_not}
+use Rattle.rule_check.proofs.DecideLemmas.{HasColon, both, cut_or_plain, is_empty, is_true, one_of, regexp_or_not, replacement_or_not, scheme_or_not}
 use Rattle.std.proofs.lemmas.List.Sums.{AllPass-from_list_all}
 
 is_step : (k : Kind) → Either (k ≡ kind.Step)

@@ -1,10 +1,9 @@
 -- The steps of the check of a rule, for private functions alone (this project's own).
-use Rattle.std.specs.Prelude.{◌≡◌, ◌≢◌, ◌⊎◌, ℕ, ◌==◌, Bool, true, false, cond, List, [], ◌∷◌}
+use Rattle.std.specs.Prelude.{◌≡◌, ◌⊎◌, ℕ, ◌==◌, Bool, true, false, cond, List, [], ◌∷◌}
 use Rattle.naptr_rule.specs.declared.rule.Naptr.{Naptr}
 use Rattle.service_field.specs.Applications.{Meaning}
 use Rattle.service_field.specs.declared.kind.Kind.TheVariants as kind
 use Rattle.subst_expr.specs.Pieces.{backslash}
-use Rattle.subst_expr.specs.Regexp.{IsRegexpFault}
 use Rattle.subst_expr.specs.Replacement.{is_group_digit}
 use Rattle.subst_expr.specs.declared.regexp.RegexpFault.{RegexpFault}
 use Rattle.subst_expr.specs.declared.regexp.RegexpFault.TheVariants as regexp

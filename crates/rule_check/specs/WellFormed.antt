@@ -1,6 +1,6 @@
 -- Which rules provisioning takes, and the first fault of the others (RFC 3403, section 4.1; RFC 4848, section 2.2; that a
 -- REGEXP that gives a URI begins its output with a literal scheme, and the order of the faults, are this project's own).
-use Rattle.std.specs.Prelude.{◌≡◌, ◌≢◌, ◌⊎◌, ℕ, ◌<◌, true, if◌then◌else◌, List, [], ◌∷◌, ◌++◌, codes, Option, Some, None, Ok}
+use Rattle.std.specs.Prelude.{◌≡◌, ◌≢◌, ◌⊎◌, ℕ, ◌<◌, true, if◌then◌else◌, List, [], ◌∷◌, ◌++◌, codes, Some, None, Ok}
 use Rattle.naptr_rule.specs.declared.rule.Naptr.{Naptr}
 use Rattle.service_field.specs.Applications.{Meaning}
 use Rattle.service_field.specs.declared.kind.Kind.TheVariants as kind
@@ -8,7 +8,6 @@ use Rattle.subst_expr.specs.Pieces.{Piece, Plain, Pair}
 use Rattle.subst_expr.specs.Regexp.{IsWellFormed, IsRegexpFault}
 use Rattle.subst_expr.specs.Replacement.{HasPieces, is_group_digit}
 use Rattle.subst_expr.specs.Split.{Splits}
-use Rattle.subst_expr.specs.declared.regexp.RegexpFault.{RegexpFault}
 use Rattle.subst_expr.specs.declared.regexp.RegexpFault.TheVariants as regexp
 use Rattle.subst_expr.specs.declared.subst.Subst.{Subst}
 use Rattle.rule_check.specs.Fields.{HasFields}

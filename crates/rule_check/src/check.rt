@@ -65,12 +65,18 @@ fn field_fault<P: DddsApp>(app: &P, rule: &Naptr) -> Option<RuleFault>
     if has_fields(app, rule) {
         return None;
     }
-    Some(match (is_unknown(app, rule), rule.regexp.as_bytes().is_empty(), is_root(rule.replacement)) {
-        (true, _, _) => RuleFault::UnknownFlags,
-        (false, false, false) => RuleFault::BothFields,
-        (false, true, true) => RuleFault::NoField,
-        _ => RuleFault::WrongField,
-    })
+    Some(
+        match (
+            is_unknown(app, rule),
+            rule.regexp.as_bytes().is_empty(),
+            is_root(rule.replacement),
+        ) {
+            (true, _, _) => RuleFault::UnknownFlags,
+            (false, false, false) => RuleFault::BothFields,
+            (false, true, true) => RuleFault::NoField,
+            _ => RuleFault::WrongField,
+        },
+    )
 }
 
 // Whether the rule has the field that its flags ask for.

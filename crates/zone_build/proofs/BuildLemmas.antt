@@ -18,7 +18,7 @@ use Rattle.zone_build.specs.Zone.{Zone, IsPlain, AreOneSet, AreRepeats, IsRising
 use Rattle.zone_build.specs.Built.{IsFirstRepeat, IsKept, IsBuilt}
 use Rattle.zone_build.specs.Faults.{HasSoa, HasOneSoa, IsInside, Clashes, IsFirst, IsWildcardCut, IsLarge, AreUnmixed}
 use Rattle.zone_build.specs.Building.{Given, AreGivens, IsEarliest, AreMerged, IsSoaAs, IsKeptOf, IsMixedAt, IsFirstMixed}
-use Rattle.zone_build.specs.declared.key.Key.TheVariants.{Whole}
+use Rattle.zone_build.specs.declared.entry.Key.TheVariants.{Whole}
 use Rattle.zone_build.proofs.ListLemmas.{AllByRecursion-made}
 use Rattle.zone_build.proofs.OrderLemmas.{alike_equal, alike_sym, alike_trans}
 use Rattle.zone_build.proofs.MergeLemmas.{kept_repeats}

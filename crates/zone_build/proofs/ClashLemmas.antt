@@ -7,7 +7,7 @@ use Rattle.std.proofs.lemmas.List.{drop_all, drop-drop}
 use Rattle.naptr_data.proofs.CutLemmas.{Contains-head, Contains-none}
 use Rattle.dns_name.specs.Name.{AreSame}
 use Rattle.zone_build.specs.Building.{Given, key_order, IsRun, AreMixed, IsMixedAt, IsFirstMixed, IsLeastPlace, least_of}
-use Rattle.zone_build.specs.declared.key.Key.TheVariants.{Owner, Whole}
+use Rattle.zone_build.specs.declared.entry.Key.TheVariants.{Owner, Whole}
 use Rattle.zone_build.proofs.ListLemmas.{take_in, drop_in, part_of, turned_all}
 use Rattle.zone_build.proofs.OrderLemmas.{alike_sym, later_apart}
 

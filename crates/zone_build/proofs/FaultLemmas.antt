@@ -72,7 +72,8 @@ large_after_soa (a ∷ rest) the_soa others place c is is' none f =
 pub large_nowhere : (kept the_soa others : List Record) → IsCanonical kept → the_soa ≡ take 1 kept → others ≡ drop 1 kept
     → IsFirstLarge the_soa None → IsFirstLarge others None → IsFirstLarge kept None
 large_nowhere [] the_soa others c is is' none f = absurd c
-large_nowhere (a ∷ rest) the_soa others c is is' none f = none_at_all a rest c (subst (λ l. IsFirstLarge l None) is none) (subst (λ l. IsFirstLarge l None) is' f)
+large_nowhere (a ∷ rest) the_soa others c is is' none f =
+    none_at_all a rest c (subst (λ l. IsFirstLarge l None) is none) (subst (λ l. IsFirstLarge l None) is' f)
 
 pub canonical_rising : (kept the_soa : List Record) → IsCanonical kept → the_soa ≡ take 1 kept → IsRising the_soa
 canonical_rising [] the_soa c is = absurd c

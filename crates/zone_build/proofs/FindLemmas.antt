@@ -17,12 +17,13 @@ use Rattle.dns_wire.specs.declared.record.Record.{Record}
 use Rattle.zone_build.specs.Zone.{Zone, IsValid, IsIn, IsSet, IsRising, IsCanonical, order_of, owner_order}
 use Rattle.zone_build.specs.Finding.{IsKindStart, IsLeastKindAt, least_kind_with}
 use Rattle.zone_build.specs.Indexing.{Indexed, ArePlaces, NoneMeets, FindsOwners, IsIndex, candidates, key_of, owner_at, kind_at}
-use Rattle.zone_build.specs.declared.places.Places.{Places}
-use Rattle.zone_build.specs.declared.sought.Sought.TheVariants.{At, Below}
-use Rattle.zone_build.specs.declared.key.Key.TheVariants.{Owner, Set}
+use Rattle.zone_build.specs.declared.index.Places.{Places}
+use Rattle.zone_build.specs.declared.index.Sought.TheVariants.{At, Below}
+use Rattle.zone_build.specs.declared.entry.Key.TheVariants.{Owner, Set}
 use Rattle.zone_build.proofs.ListLemmas.{AllByRecursion-contains, AllByRecursion-made}
 use Rattle.zone_build.proofs.OrderLemmas.{three, key_not_after, alike_equal}
-use Rattle.zone_build.proofs.IndexLemmas.{record_at, place_of, same_keys, below_both, before_or_from, equal_or_after}
+use Rattle.zone_build.proofs.IndexLemmas.{record_at, place_of, same_keys, before_or_from, equal_or_after}
+use Rattle.zone_build.proofs.IndexNamesLemmas.{below_both}
 
 -- a record stands at a place
 pub record IsPlacedAt (xs : List Record) (r : Record) (k : ℕ) : Type 0 where
@@ -240,7 +241,8 @@ pub owner_lacking : (records : List Record) (index : Indexed) (owner : Labels) �
     → NoneMeets At records owner (candidates index (key_of index.seed owner)) → (k : ℕ) → 0 < k → k < length records
     → ¬ AreSame (owner_at records k) owner
 owner_lacking records index owner finds none k p l same =
-    finds.owners k p l (λ one c m. none one (subst (λ n. Contains (candidates index n) one) (same_keys index.seed (owner_at records k) owner same) c) (m ∙ same))
+    finds.owners k p l (λ one c m. none one (subst (λ n. Contains (candidates index n) one)
+    (same_keys index.seed (owner_at records k) owner same) c) (m ∙ same))
 
 pub set_lacking : (records : List Record) (index : Indexed) (owner : Labels) (kind : ℕ) (set : List Record)
     → IsCanonical records → FindsOwners records index → NoneMeets At records owner (candidates index (key_of index.seed owner))

@@ -7,9 +7,11 @@ pub mod FaultLemmas
 pub mod FindLemmas
 pub mod FrontLemmas
 pub mod IndexLemmas
+pub mod IndexNamesLemmas
 pub mod LargeLemmas
 pub mod ListLemmas
 pub mod MakeZoneLemmas
+pub mod ZoneOrFaultLemmas
 pub mod MergeLemmas
 pub mod OneFaultLemmas
 pub mod OneZoneLemmas

@@ -18,8 +18,8 @@ use Rattle.zone_build.specs.Building.{Given, Chosen, keep_of, copy_of, settled, 
 use Rattle.zone_build.specs.Building.{IsLeast, IsCopy, IsEarliest, IsFirstCopy, IsStable, AreMerged, IsSoaAs}
 use Rattle.zone_build.specs.Building.{IsSetTtl, IsKeptOf, IsMergedSet}
 use Rattle.zone_build.specs.declared.keep.Keep.{Keep}
-use Rattle.zone_build.specs.declared.key.Key.{Key}
-use Rattle.zone_build.specs.declared.key.Key.TheVariants.{Set, Whole}
+use Rattle.zone_build.specs.declared.entry.Key.{Key}
+use Rattle.zone_build.specs.declared.entry.Key.TheVariants.{Set, Whole}
 use Rattle.zone_build.proofs.ListLemmas.{take_in, drop_in, part_of, only_one, AllByRecursion-made}
 use Rattle.zone_build.proofs.RunLemmas.{stable_take, stable_drop, stable_head}
 use Rattle.zone_build.proofs.OrderLemmas.{order_of-total, key_later, alike_equal, alike_sym, alike_trans, equal_less, less_equal, later_apart}

@@ -12,7 +12,7 @@ use Rattle.zone_build.specs.Built.{IsFirst, IsBuilt}
 use Rattle.zone_build.specs.Faults.{HasSoa, HasOneSoa, IsInside, Clashes, IsWildcardCut, IsLarge, IsZoneFault}
 use Rattle.zone_build.specs.declared.fault.ZoneFault.{ZoneFault}
 use Rattle.zone_build.specs.declared.fault.ZoneFault.TheVariants as fault
-use Rattle.zone_build.specs.declared.key.Key.TheVariants.{Whole}
+use Rattle.zone_build.specs.declared.entry.Key.TheVariants.{Whole}
 use Rattle.zone_build.proofs.OrderLemmas.{alike_sym, alike_trans}
 use Rattle.zone_build.proofs.SoaLemmas.{first_in}
 use Rattle.zone_build.proofs.OneZoneLemmas.{one_first, begins_soa, one_soa, one_built}

@@ -12,7 +12,7 @@ use Rattle.dns_wire.specs.declared.content.Content.{Content}
 use Rattle.dns_wire.specs.declared.record.Record.{Record}
 use Rattle.zone_build.specs.Zone.{Zone, AreRepeats, IsRising, IsCanonical, order_of}
 use Rattle.zone_build.specs.Built.{IsFirst, IsLeastTtl, IsKept, IsBuilt}
-use Rattle.zone_build.specs.declared.key.Key.TheVariants.{Whole}
+use Rattle.zone_build.specs.declared.entry.Key.TheVariants.{Whole}
 use Rattle.zone_build.proofs.ListLemmas.{AllByRecursion-contains}
 use Rattle.zone_build.proofs.OrderLemmas.{order_of-total, alike_sym, alike_trans}
 use Rattle.zone_build.proofs.SoaLemmas.{first_in, first_same}

@@ -13,8 +13,8 @@ use Rattle.dns_wire.specs.Rdata.{rdata_of}
 use Rattle.dns_wire.specs.declared.record.Record.{Record}
 use Rattle.zone_build.specs.Zone.{AreRepeats, owner_order, order_of}
 use Rattle.zone_build.specs.Building.{Given, AreKeys, key_order, entry_order, front_of, AreAlike}
-use Rattle.zone_build.specs.declared.key.Key.{Key}
-use Rattle.zone_build.specs.declared.key.Key.TheVariants.{Owner, Set, Whole}
+use Rattle.zone_build.specs.declared.entry.Key.{Key}
+use Rattle.zone_build.specs.declared.entry.Key.TheVariants.{Owner, Set, Whole}
 use Rattle.zone_build.proofs.FrontLemmas.{fronts_apart}
 
 abbrev pub bytes_cmp : List ℕ → List ℕ → Ordering

@@ -12,7 +12,7 @@ use Rattle.zone_build.specs.Zone.{AreRepeats, IsCanonical, IsRising, order_of}
 use Rattle.zone_build.specs.Built.{IsBuilt}
 use Rattle.zone_build.specs.Building.{Given, AreGivens, Chosen, keep_of, copy_of, settled, AreAmong, AreApart, AreSettled, IsKeptList, IsPlan}
 use Rattle.zone_build.specs.declared.keep.Keep.{Keep}
-use Rattle.zone_build.specs.declared.key.Key.TheVariants.{Whole}
+use Rattle.zone_build.specs.declared.entry.Key.TheVariants.{Whole}
 use Rattle.zone_build.proofs.ListLemmas.{AllByRecursion-contains}
 use Rattle.zone_build.proofs.OrderLemmas.{alike_equal}
 use Rattle.zone_build.proofs.BuildLemmas.{built_of}

@@ -9,7 +9,7 @@ use Rattle.std.proofs.lemmas.Cmp.{tied_itself}
 use Rattle.naptr_data.proofs.CutLemmas.{Contains-head, Contains-none, head_or_after}
 use Rattle.zone_build.specs.Zone.{AreRepeats, order_of}
 use Rattle.zone_build.specs.Building.{Given, key_order, AreAlike, IsOrdered, IsStable, IsRun}
-use Rattle.zone_build.specs.declared.key.Key.{Key}
+use Rattle.zone_build.specs.declared.entry.Key.{Key}
 use Rattle.zone_build.proofs.ListLemmas.{take_in, drop_in, turn_of, turned_all, AllByRecursion-contains}
 use Rattle.zone_build.proofs.OrderLemmas.{alike_itself, key_order-total, key_not_after, alike_equal, alike_sym}
 use Rattle.zone_build.proofs.OrderLemmas.{alike_trans, equal_less, less_not_after, then_before}

@@ -8,7 +8,7 @@ use Rattle.dns_wire.specs.declared.record.Record.{Record}
 use Rattle.zone_build.specs.Zone.{IsRising, AreOneSet, weight}
 use Rattle.zone_build.specs.Faults.{IsFirst, IsLarge}
 use Rattle.zone_build.specs.Building.{Given, key_order, IsRun, givens_from, records_of}
-use Rattle.zone_build.specs.declared.key.Key.TheVariants.{Set}
+use Rattle.zone_build.specs.declared.entry.Key.TheVariants.{Set}
 use Rattle.naptr_data.proofs.CutLemmas.{Contains-none}
 use Rattle.zone_build.proofs.ListLemmas.{turn_of}
 use Rattle.zone_build.proofs.OrderLemmas.{alike_itself}

@@ -15,7 +15,7 @@ use Rattle.dns_wire.specs.declared.record.Record.{Record}
 use Rattle.zone_build.specs.Zone.{IsIn, IsSet, IsRising, weight, order_of}
 use Rattle.zone_build.specs.Faults.{IsFirst, IsLarge}
 use Rattle.zone_build.specs.Building.{Given, key_order, IsOrdered, IsRun, records_of, givens_from}
-use Rattle.zone_build.specs.declared.key.Key.TheVariants.{Set}
+use Rattle.zone_build.specs.declared.entry.Key.TheVariants.{Set}
 use Rattle.zone_build.proofs.ListLemmas.{take_in, drop_in, turned_all, cut_of, AllByRecursion-made, AllByRecursion-contains}
 use Rattle.zone_build.proofs.OrderLemmas.{alike_sym, later_apart}
 

@@ -14,7 +14,7 @@ use Rattle.dns_wire.specs.Kinds.{soa}
 use Rattle.dns_wire.specs.declared.record.Record.{Record}
 use Rattle.zone_build.specs.Zone.{AreOneSet, IsIn, IsSet, IsRising, IsCanonical, owner_order, order_of}
 use Rattle.zone_build.specs.Building.{key_order}
-use Rattle.zone_build.specs.declared.key.Key.TheVariants.{Set}
+use Rattle.zone_build.specs.declared.entry.Key.TheVariants.{Set}
 use Rattle.zone_build.proofs.ListLemmas.{AllByRecursion-contains, AllByRecursion-made}
 use Rattle.zone_build.proofs.OrderLemmas.{three, key_not_after, alike_equal, key_order-total, less_not_after}
 use Rattle.zone_build.proofs.OrderLemmas.{then_equal, equal_then, nat_cmp-equal, bytes_cmp-equal}

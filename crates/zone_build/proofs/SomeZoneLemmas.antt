@@ -11,7 +11,7 @@ use Rattle.dns_wire.specs.declared.record.Record.{Record}
 use Rattle.zone_build.specs.Zone.{AreRepeats}
 use Rattle.zone_build.specs.Built.{IsFirst}
 use Rattle.zone_build.specs.Faults.{HasSoa, HasOneSoa, IsInside, Clashes, AreInside, AreUnmixed}
-use Rattle.zone_build.specs.declared.key.Key.TheVariants.{Whole}
+use Rattle.zone_build.specs.declared.entry.Key.TheVariants.{Whole}
 use Rattle.zone_build.proofs.OrderLemmas.{alike_sym, alike_trans}
 use Rattle.zone_build.proofs.SoaLemmas.{first_in}
 use Rattle.zone_build.proofs.DecideLemmas.{repeats_or_not}

@@ -13,7 +13,7 @@ use Rattle.naptr_data.proofs.CutLemmas.{Contains-head, Contains-after, Contains-
 use Rattle.dns_wire.specs.declared.record.Record.{Record}
 use Rattle.zone_build.specs.Zone.{AreRepeats, order_of}
 use Rattle.zone_build.specs.Building.{Given, IsOrdered, IsStable, entry_order, AreGivens, givens_from}
-use Rattle.zone_build.specs.declared.key.Key.TheVariants.{Whole}
+use Rattle.zone_build.specs.declared.entry.Key.TheVariants.{Whole}
 use Rattle.zone_build.proofs.ListLemmas.{AllByRecursion-made}
 use Rattle.zone_build.proofs.OrderLemmas.{entry_order-total, then_front, alike_equal}
 

@@ -19,8 +19,8 @@ use Rattle.naptr_data.specs.Zones.{Labels}
 use Rattle.zone_build.specs.declared.fault.ZoneFault.{ZoneFault}
 use Rattle.zone_build.specs.declared.fault.ZoneFault.TheVariants as fault
 use Rattle.zone_build.specs.declared.keep.Keep.{Keep}
-use Rattle.zone_build.specs.declared.key.Key.{Key}
-use Rattle.zone_build.specs.declared.key.Key.TheVariants.{Owner, Set, Whole}
+use Rattle.zone_build.specs.declared.entry.Key.{Key}
+use Rattle.zone_build.specs.declared.entry.Key.TheVariants.{Owner, Set, Whole}
 
 -- a given record, and its place in the list
 pub record Given : Type 0 where

@@ -5,7 +5,7 @@ use Rattle.naptr_data.specs.Zones.{Labels}
 use Rattle.dns_wire.specs.Kinds.{soa}
 use Rattle.dns_wire.specs.declared.record.Record.{Record}
 use Rattle.zone_build.specs.Indexing.{kind_at}
-use Rattle.zone_build.specs.declared.places.Places.{Places}
+use Rattle.zone_build.specs.declared.index.Places.{Places}
 
 -- among the records at some places those before this one have lesser kinds, and the others have not
 pub record IsKindStart (records : List Record) (places : Places) (kind at : ℕ) : Type 0 where

@@ -6,9 +6,9 @@ use Rattle.std.specs.Map.{lookup}
 use Rattle.dns_name.specs.Name.{AreSame, IsBelow, folded_labels, wire_of}
 use Rattle.naptr_data.specs.Zones.{Labels}
 use Rattle.dns_wire.specs.declared.record.Record.{Record}
-use Rattle.zone_build.specs.declared.places.Places.{Places}
-use Rattle.zone_build.specs.declared.sought.Sought.{Sought}
-use Rattle.zone_build.specs.declared.sought.Sought.TheVariants.{At, Below}
+use Rattle.zone_build.specs.declared.index.Places.{Places}
+use Rattle.zone_build.specs.declared.index.Sought.{Sought}
+use Rattle.zone_build.specs.declared.index.Sought.TheVariants.{At, Below}
 
 -- a number with one more byte after it, at 64 bits
 abbrev pub joined : ℕ → ℕ → ℕ

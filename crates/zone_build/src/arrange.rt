@@ -31,6 +31,13 @@ pub(crate) fn arranged(
 
 // Moves the records to the front. `who` has the place at which the record that stands there now was given, and `at` the
 // place at which the one that was given there stands now.
+//
+// Of a b c d the three d, a, b are kept, in this order:
+//
+//     a b c d    who 0 1 2 3    at 0 1 2 3
+//     d b c a    who 3 1 2 0    at 3 1 2 0    d was given at 3, and comes to 0
+//     d a c b    who 3 0 2 1    at 1 3 2 0    a was given at 0, stands at 3, and comes to 1
+//     d a b c    who 3 0 1 2    at 1 2 3 0    b was given at 1, stands at 3, and comes to 2
 fn arrange(records: &mut [Record], keeps: &[Keep], who: &mut [usize], at: &mut [usize])
     requires apart { AreApart (length records.old) keeps.now }
     requires who { who.old ≡ range_with_len 0 (length records.old) }

@@ -1,17 +1,28 @@
-//! Given records with their places, while a zone is built of them.
-ghost use Rattle.std.specs.Prelude.{◌≡◌, IfOk};
+//! Given records with their places, while a zone is built of them, and their order.
+ghost use Rattle.std.specs.Prelude.{◌≡◌, IfOk, ℕ, ◌<◌, slice_index_or};
 ghost use Rattle.std.specs.Ordering.{nat_cmp};
 ghost use Rattle.std.specs.Cmp.Lexicographic.{slice_cmp};
+ghost use Rattle.enum_base.specs.Folding.{folded};
+ghost use Rattle.naptr_rule.specs.Rdata.{rdata};
+ghost use Rattle.dns_wire.specs.Kinds.{kind_of, naptr};
+ghost use Rattle.dns_wire.specs.Rdata.{rdata_of};
+ghost use Rattle.zone_build.specs.Building.{front_of, compared_bytes};
 
-use crate::front::front_of;
-use crate::key::Key;
 use crate::order::cmp_owners;
-use crate::rdata_order::{cmp_rule, compared_bytes};
 use dns_wire::{Content, Record};
-use enum_base::{Bytes, MemoryFault};
+use enum_base::{Bytes, MemoryFault, fold_byte};
+use naptr_data::Naptr;
 use std::alloc::Global;
 use std::cmp::Ordering;
 use std::marker::Model;
+
+/// By the owner, by owner and kind, or by owner, kind and RDATA.
+#[derive(Clone, Copy, Debug, PartialEq, Eq)]
+pub(crate) enum Key {
+    Owner,
+    Set,
+    Whole,
+}
 
 /// A given record, its place in the list, and what it is compared by.
 #[derive(Drop)]
@@ -168,5 +179,50 @@ impl<'a> Entry<'a> {
             Content::Naptr(rule) => cmp_rule(rule, &other.given.content),
             _ => rdata.cmp(other_rdata),
         }
+    }
+}
+
+/// The number that the first sixteen bytes make, folded, the first of them the greatest; a byte that is missing counts
+/// as zero.
+pub(crate) fn front_of(text: &[u8]) -> u128
+    ensures value { result ≡ front_of 16 (folded text.now) }
+    ensures bytes { (at : ℕ) → at < 16 → slice_index_or (folded text.now) at 0 < 256 }
+{
+    let mut front: u128 = 0;
+    for at in 0..16 {
+        front = 256 * front + u128::from(byte_at(text, at));
+    }
+    front
+}
+
+// The folded byte at a place, or zero after the last.
+fn byte_at(text: &[u8], at: usize) -> u8
+    ensures { result ≡ slice_index_or (folded text.now) at 0 }
+{
+    if at < text.len() {
+        fold_byte(text[at])
+    } else {
+        0
+    }
+}
+
+/// The RDATA of content other than a rule.
+pub(crate) fn compared_bytes(alloc: Global, said: &Content) -> Result<Bytes, MemoryFault>
+    ensures { IfOk result (λ bytes. bytes ≡ compared_bytes said.now) }
+{
+    match said {
+        Content::Naptr(_) => Ok(Bytes::new(alloc)),
+        _ => said.rdata(alloc),
+    }
+}
+
+/// The order of the RDATA of a rule and of content of its kind.
+pub(crate) fn cmp_rule(rule: &Naptr, said: &Content) -> Ordering
+    requires { kind_of said.now ≡ naptr }
+    ensures { result ≡ slice_cmp nat_cmp (rdata rule.now) (rdata_of said.now) }
+{
+    match said {
+        Content::Naptr(other) => rule.cmp_rank(other),
+        _ => Ordering::Equal,
     }
 }

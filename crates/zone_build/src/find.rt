@@ -7,9 +7,7 @@ ghost use Rattle.zone_build.specs.Finding.{IsKindStart, IsLeastKindAt, least_kin
 ghost use Rattle.zone_build.specs.Indexing.{ArePlaces, FindsOwners, IsIndex, kind_at, owner_at};
 ghost use Rattle.dns_wire.specs.declared.record.Record.{Record};
 
-use crate::index::{Index, owner_at};
-use crate::places::Places;
-use crate::sought::Sought;
+use crate::index::{Index, Places, Sought, owner_at};
 use dns_name::Name;
 use dns_wire::Record;
 

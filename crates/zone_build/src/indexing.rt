@@ -2,14 +2,11 @@
 ghost use Rattle.std.specs.Prelude.{◌≡◌, ◌<◌, ◌≤◌, ℕ, length, IsTrue, OnOk, IfOk};
 ghost use Rattle.dns_name.specs.Name.{AreSame, IsBelow};
 ghost use Rattle.zone_build.specs.Zone.{IsCanonical};
-ghost use Rattle.zone_build.specs.Indexing.{ArePlaces, AllPlaces, IsIndex, FindsOwners, IsRunEnd, HasBelow, CoversAbove, CoversBefore, IsAboveEarlier};
-ghost use Rattle.zone_build.specs.Indexing.{IsGrown, owner_at};
+ghost use Rattle.zone_build.specs.Indexing.{ArePlaces, AllPlaces, IsIndex, FindsOwners, IsRunEnd, HasBelow};
+ghost use Rattle.zone_build.specs.Indexing.{CoversAbove, CoversBefore, IsAboveEarlier, IsGrown, owner_at};
 
-use crate::index::{Index, owner_at};
-use crate::name_key::seed_of;
+use crate::index::{Index, Places, Sought, owner_at, seed_of};
 use crate::order::cmp_owners;
-use crate::places::Places;
-use crate::sought::Sought;
 use dns_name::Name;
 use dns_wire::Record;
 use enum_base::MemoryFault;
@@ -59,7 +56,7 @@ fn add_names(index: &mut Index, records: &[Record], apex: &Name) -> Result<(), M
     Ok(())
 }
 
-// Adds the name and those above it that are below the apex, up to one that is above an owner that was passed.
+// Adds the names above one that is found, up to the apex or to one that is above an owner that was passed.
 fn add_above(
     index: &mut Index,
     records: &[Record],
@@ -71,19 +68,20 @@ fn add_above(
     requires all { AllPlaces records.now index.old }
     requires below { IsBelow (owner_at records.now places.first) name.now }
     requires before { CoversBefore records.now apex.now places.first index.old }
+    requires there { HasBelow records.now index.old name.now }
     ensures grown { OnOk result (IsGrown records.now index.old index.new) }
     ensures above { OnOk result (CoversAbove records.now apex.now name.now index.new) }
 {
     if name.same(apex) {
         return Ok(());
     }
-    if add_name(index, records, places, name)? {
+    let Some(above) = name.parent() else {
+        return Ok(());
+    };
+    if add_name(index, records, places, &above)? {
         return Ok(());
     }
-    match name.parent() {
-        Some(above) => add_above(index, records, apex, places, &above),
-        None => Ok(()),
-    }
+    add_above(index, records, apex, places, &above)
 }
 
 // Adds the name, unless it is found already, and answers whether it is found for an owner that was passed.

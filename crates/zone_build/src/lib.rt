@@ -3,28 +3,16 @@
 
 mod arrange;
 mod build;
-mod clash;
-mod count;
 mod entry;
 mod fault;
 mod find;
-mod front;
 mod index;
 mod indexing;
 mod keep;
-mod key;
 mod laws;
-mod merge;
-mod name_key;
 mod order;
-mod places;
-mod rdata_order;
-mod run;
-mod size;
 mod soa;
 mod sort;
-mod sought;
-mod words;
 mod zone;
 
 pub use fault::ZoneFault;

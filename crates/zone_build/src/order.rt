@@ -6,7 +6,7 @@ ghost use Rattle.std.specs.declared.cmp.Ordering.TheVariants.{Equal};
 ghost use Rattle.dns_name.specs.Name.{wire_of, folded_labels, AreSame};
 ghost use Rattle.zone_build.specs.Zone.{AreOneSet};
 ghost use Rattle.zone_build.specs.Building.{key_order};
-ghost use Rattle.zone_build.specs.declared.key.Key.TheVariants.{Set};
+ghost use Rattle.zone_build.specs.declared.entry.Key.TheVariants.{Set};
 
 use dns_name::Name;
 use dns_wire::Record;

@@ -7,8 +7,7 @@ ghost use Rattle.zone_build.specs.Zone.{AreRepeats, IsWildcard};
 ghost use Rattle.zone_build.specs.Faults.{IsFirst, IsWildcardCut};
 ghost use Rattle.zone_build.specs.Building.{Given, begins_wildcard};
 
-use crate::entry::Entry;
-use crate::key::Key;
+use crate::entry::{Entry, Key};
 use dns_name::Name;
 use dns_wire::Record;
 use std::cmp::Ordering;

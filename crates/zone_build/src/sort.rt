@@ -1,13 +1,14 @@
-//! Given records as entries in order.
-ghost use Rattle.std.specs.Prelude.{◌≡◌, Contains, IsPermutation, IfOk, OnOk};
+//! Given records as entries in order, and runs of entries that are alike.
+ghost use Rattle.std.specs.Prelude.{◌≡◌, Contains, IsPermutation, IfOk, OnOk, ◌<◌, length, take, drop};
 ghost use Rattle.dns_wire.specs.declared.record.Record.{Record};
 ghost use Rattle.zone_build.specs.Zone.{IsPlain};
-ghost use Rattle.zone_build.specs.Building.{IsOrdered, IsStable, AreGivens, givens_from};
+ghost use Rattle.zone_build.specs.Building.{IsOrdered, IsStable, AreGivens, givens_from, IsRun};
 
-use crate::entry::Entry;
+use crate::entry::{Entry, Key};
 use dns_wire::Record;
 use enum_base::MemoryFault;
 use std::alloc::Global;
+use std::cmp::Ordering;
 
 /// The records as entries, in order, repeats in the order of their places.
 pub(crate) fn sorted_entries(
@@ -43,4 +44,31 @@ fn sort(entries: &mut Vec<Entry<'_>>) -> Result<(), MemoryFault>
 {
     entries.sort_by(|one, other| one.cmp_whole(other))?;
     Ok(())
+}
+
+/// How many entries in front are alike by that key.
+pub(crate) fn run_len(rest: &[Entry<'_>], key: Key) -> usize
+    requires some { 0 < length rest.now }
+    requires ordered { IsOrdered rest.now }
+    ensures { IsRun key rest.now result }
+{
+    let head = &rest[0];
+    for at in 1..rest.len() {
+        match head.cmp_by(&rest[at], key) {
+            Ordering::Equal => {}
+            _ => return at,
+        }
+    }
+    rest.len()
+}
+
+/// The entries from that place on that are alike by that key.
+pub(crate) fn run_at<'a, 'b>(sorted: &'a [Entry<'b>], at: usize, key: Key) -> &'a [Entry<'b>]
+    requires within { at < length sorted.now }
+    requires ordered { IsOrdered sorted.now }
+    ensures run { IsRun key (drop at sorted.now) (length result.now) }
+    ensures part { result.now ≡ take (length result.now) (drop at sorted.now) }
+{
+    let rest = &sorted[at..];
+    &rest[..run_len(rest, key)]
 }

@@ -1,15 +1,16 @@
-//! Zones.
-ghost use Rattle.std.specs.Prelude.{◌≡◌, ◌↔◌, ◌≤◌, length, Contains, IsTrue, IfOk, IfErr};
+//! Zones of given records.
+ghost use Rattle.std.specs.Prelude.{◌≡◌, ◌↔◌, ◌≤◌, length, Contains, IsTrue, IfOk, IfErr, map, if◌then◌else◌};
+ghost use Rattle.naptr_data.specs.Zones.{holds_one, rules_and_aliases_in};
+ghost use Rattle.zone_build.specs.Plain.{item_of, owned_of};
 
 use crate::arrange::arranged;
 use crate::build::{last_fault, plan_of};
-use crate::count::count_in;
 use crate::fault::ZoneFault;
 use crate::find::{has_below, least_kind_of, set_of};
 use crate::index::Index;
 use crate::indexing::index_of;
 use dns_name::Name;
-use dns_wire::{Record, Records};
+use dns_wire::{Content, Record, Records};
 use std::alloc::Global;
 use std::marker::Model;
 
@@ -125,4 +126,24 @@ impl Zone {
     {
         self.records.as_slice()
     }
+}
+
+/// The rules and CNAMEs among records.
+pub(crate) fn count_in(records: &[Record]) -> usize
+    ensures count { result ≡ rules_and_aliases_in (map owned_of records.now) }
+    ensures few { result ≤ length records.now }
+{
+    let mut count = 0;
+    for one in records {
+        if is_rule_or_alias(&one.content) {
+            count += 1;
+        }
+    }
+    count
+}
+
+fn is_rule_or_alias(said: &Content) -> bool
+    ensures { (if result then 1 else 0) ≡ holds_one (item_of said.now) }
+{
+    matches!(said, Content::Naptr(_) | Content::Cname(_))
 }

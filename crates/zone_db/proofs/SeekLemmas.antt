@@ -14,7 +14,7 @@ use Rattle.dns_wire.specs.Kinds.{ns, cname, soa}
 use Rattle.dns_wire.specs.declared.record.Record.{Record}
 use Rattle.zone_build.specs.Zone.{Zone, IsIn, IsSet, IsCanonical, IsValid}
 use Rattle.zone_build.specs.Finding.{IsLeastKindAt}
-use Rattle.zone_build.proofs.IndexLemmas.{below_both}
+use Rattle.zone_build.proofs.IndexNamesLemmas.{below_both}
 use Rattle.zone_build.proofs.SomeSetLemmas.{length-wire}
 use Rattle.zone_build.specs.Plain.{owned_of, plain_of}
 use Rattle.zone_db.specs.LookUp.{IsHighestCut, HasKind, AsksFor, MeetsAlias, IsAnswered, every}
@@ -205,7 +205,8 @@ set_none records owner kind [] s none one c i = elim (Contains-append_cases s.be
 ]
 
 -- the first record of a valid zone is its SOA
-pub soa_first : (records : List Record) (the_soa : Record) → IsCanonical records → the_soa ≡ get_or records 0 the_soa → Contains records the_soa × (the_soa.kind ≡ soa)
+pub soa_first : (records : List Record) (the_soa : Record) → IsCanonical records
+    → the_soa ≡ get_or records 0 the_soa → Contains records the_soa × (the_soa.kind ≡ soa)
 soa_first [] the_soa c is = absurd c
 soa_first (x ∷ rest) the_soa c is =
     (subst (λ r. Contains (x ∷ rest) r) (sym is) (Contains-head x rest), ap (λ (r : Record). r.kind) is ∙ c.0)

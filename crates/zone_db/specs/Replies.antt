@@ -1,7 +1,8 @@
 -- Replies of an authority (RFC 1034, section 4.3.2; RFC 1035, sections 4.1.1 and 4.2; RFC 2181, section 9; RFC 2308, section 3;
 -- RFC 4592; RFC 6891, sections 6 and 7). The order of the refusals, the limits of a datagram, how many aliases are followed and the
 -- set that is given for all kinds are this project's own.
-use Rattle.std.specs.Prelude.{◌≡◌, ◌⊎◌, ℕ, zero, suc, ◌+◌, ◌*◌, ◌/◌, ◌%◌, ◌^◌, ◌≤◌, ◌==◌, ◌&&◌, ◌||◌, nat_le, nat_lt, min, max, List, [], ◌∷◌, ◌++◌, length, map, filter, find, Contains, Bool, true, false, not, if◌then◌else◌, Option, Some, None}
+use Rattle.std.specs.Prelude.{◌≡◌, ◌⊎◌, ℕ, zero, suc, ◌+◌, ◌*◌, ◌/◌, ◌%◌, ◌^◌, ◌≤◌, ◌==◌, ◌&&◌, ◌||◌, nat_le, nat_lt}
+use Rattle.std.specs.Prelude.{min, max, List, [], ◌∷◌, ◌++◌, length, map, filter, find, Contains, Bool, true, false, not, if◌then◌else◌, Option, Some, None}
 use Rattle.std.specs.List.{list_all}
 use Rattle.dns_name.specs.Name.{folded_labels, wire_of, IsBelow}
 use Rattle.naptr_data.specs.Zones.{Labels}
@@ -104,7 +105,7 @@ owned_by name records = map (λ (one : Record). record one { owner = name }) rec
 
 -- an SOA that tells how long it may be kept that something is not there (RFC 2308, 3)
 abbrev pub IsNegative : Record → Record → Type 0
-IsNegative start told = (soa : Soa) × (start.content ≡ content.Soa soa) × (told ≡ record start { ttl = min start.ttl soa.minimum })
+IsNegative the_soa told = (soa : Soa) × (the_soa.content ≡ content.Soa soa) × (told ≡ record the_soa { ttl = min the_soa.ttl soa.minimum })
 
 -- the addresses of a server at or below a cut, in the zone of the cut; of another server there are none (RFC 1034, 4.2.1)
 abbrev pub AddressesOf : Zone → Labels → Labels → List Record → Type 0
@@ -135,10 +136,10 @@ Adds Further zones name code (alias_of set) added =
     (one : Record) × (target : Labels) × (rest : Added) × (set ≡ one ∷ []) × (one.content ≡ content.Cname target) × Further target rest
     × (added ≡ record rest { answers = owned_by name set ++ rest.answers })
 Adds Further zones name code (set_of set) added = added ≡ record (nothing 0) { answers = owned_by name set }
-Adds Further zones name code (no_set start) added =
-    (told : Record) × IsNegative start told × (added ≡ record (nothing 0) { authority = told ∷ [] })
-Adds Further zones name code (no_name start) added =
-    (told : Record) × IsNegative start told × (added ≡ record (nothing 3) { authority = told ∷ [] })
+Adds Further zones name code (no_set the_soa) added =
+    (told : Record) × IsNegative the_soa told × (added ≡ record (nothing 0) { authority = told ∷ [] })
+Adds Further zones name code (no_name the_soa) added =
+    (told : Record) × IsNegative the_soa told × (added ≡ record (nothing 3) { authority = told ∷ [] })
 
 -- what is added for the target of an alias, after which so many more may be followed: nothing where none may be, or where the target
 -- was looked up already
@@ -156,8 +157,8 @@ is_authoritative outside = false
 is_authoritative (cut_of set) = false
 is_authoritative (alias_of set) = true
 is_authoritative (set_of set) = true
-is_authoritative (no_set start) = true
-is_authoritative (no_name start) = true
+is_authoritative (no_set the_soa) = true
+is_authoritative (no_name the_soa) = true
 
 -- what is said to a question by what was added for its name
 abbrev pub draft_with : Question → Bool → Added → Draft

@@ -96,7 +96,8 @@ fn report_of<R: RuleSource>(
 ) -> Result<Report, WalkFault>
     requires limit { 1 ≤ limit }
     requires some { 1 ≤ length (listed inquiry.now.keys) }
-    ensures { WalksOnce (client_for app (inquiry_of inquiry.now)) (map folded_labels (listed inquiry.now.keys)) limit (R.state source.old) (R.state source.new) result }
+    ensures { WalksOnce (client_for app (inquiry_of inquiry.now)) (map folded_labels (listed inquiry.now.keys)) limit
+        (R.state source.old) (R.state source.new) result }
 {
     match app {
         AppName::Enum => walk_as(alloc, &EnumApp, inquiry, source, limit),

@@ -1,4 +1,4 @@
-use Rattle.ddds_walk.proofs.Theorems.{all_needed}
+use Rattle.ddds_walk.proofs.LawLemmas.{all_needed}
 use Rattle.ddds_walk.specs.Graph.{graph_of}
 use Rattle.ddds_walk.proofs.laws.all_needed.Goals as goal
 

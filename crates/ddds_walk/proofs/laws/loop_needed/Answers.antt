@@ -1,5 +1,5 @@
-use Rattle.ddds_walk.proofs.Theorems.{loop_needed}
-use Rattle.ddds_walk.proofs.Told.{graph_is}
+use Rattle.ddds_walk.proofs.LawLemmas.{loop_needed}
+use Rattle.ddds_walk.proofs.ToldLemmas.{graph_is}
 use Rattle.ddds_walk.specs.Graph.{graph_of}
 use Rattle.ddds_walk.proofs.laws.loop_needed.Goals as goal
 

@@ -1,4 +1,4 @@
-use Rattle.ddds_walk.proofs.Bound.{needed_bound}
+use Rattle.ddds_walk.proofs.BoundLemmas.{needed_bound}
 use Rattle.ddds_walk.proofs.laws.needed_bound.Goals as goal
 
 pub returns : goal.returns

@@ -1,4 +1,4 @@
-use Rattle.ddds_walk.proofs.Counts.{needed_count}
+use Rattle.ddds_walk.proofs.CountLemmas.{needed_count}
 use Rattle.ddds_walk.specs.Graph.{graph_of}
 use Rattle.ddds_walk.proofs.laws.needed_count.Goals as goal
 

@@ -1,5 +1,5 @@
-use Rattle.ddds_walk.proofs.Theorems.{one_loop}
-use Rattle.ddds_walk.proofs.Told.{graph_is}
+use Rattle.ddds_walk.proofs.LawLemmas.{one_loop}
+use Rattle.ddds_walk.proofs.ToldLemmas.{graph_is}
 use Rattle.ddds_walk.specs.Graph.{graph_of}
 use Rattle.ddds_walk.proofs.laws.one_loop.Goals as goal
 

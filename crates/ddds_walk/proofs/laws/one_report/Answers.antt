@@ -1,4 +1,4 @@
-use Rattle.ddds_walk.proofs.OneReport.{one_report}
+use Rattle.ddds_walk.proofs.OneReportLemmas.{one_report}
 use Rattle.ddds_walk.proofs.laws.one_report.Goals as goal
 
 pub returns : goal.returns

@@ -1,4 +1,4 @@
-use Rattle.ddds_walk.proofs.SomeReport.{some_report}
+use Rattle.ddds_walk.proofs.SomeReportLemmas.{some_report}
 use Rattle.ddds_walk.proofs.laws.some_report.Goals as goal
 
 pub returns-clause-apart : goal.returns-clause-apart

@@ -1,7 +1,7 @@
-use Rattle.std.proofs.Common.{◌≡◌, List, take, subst, ap, Err, ◌<◌, length}
+use Rattle.std.proofs.Common.{◌≡◌, List, take, subst, ap, Err, ◌<◌}
 use Rattle.naptr_data.specs.Sources.{BringsToFront, Fetches}
 use Rattle.naptr_data.specs.Zones.{Labels}
-use Rattle.ddds_walk.proofs.Asks.{asked_ok, asked_trouble, asked_memory}
+use Rattle.ddds_walk.proofs.AskLemmas.{asked_ok, asked_trouble, asked_memory}
 use Rattle.ddds_walk.proofs.walker.ask.Goals as goal
 
 pub returns-in-Ok : goal.returns-in-Ok

@@ -1,5 +1,5 @@
 use Rattle.std.specs.Prelude.{Some}
-use Rattle.ddds_walk.proofs.Standing.{among_step}
+use Rattle.ddds_walk.proofs.StandLemmas.{among_step}
 use Rattle.ddds_walk.proofs.walker.is_among.Goals as goal
 
 pub loop-frame-preserved : goal.loop-frame-preserved

@@ -1,4 +1,4 @@
-use Rattle.ddds_walk.proofs.Whole.{says_bound, says_stops, says_fetched, says_missing}
+use Rattle.ddds_walk.proofs.WholeLemmas.{says_bound, says_stops, says_fetched, says_missing}
 use Rattle.ddds_walk.proofs.walking.walk.Goals as goal
 
 pub returns-clause-bound : goal.returns-clause-bound

@@ -1,4 +1,4 @@
-use Rattle.ddds_walk.proofs.Whole.{going_at, going_by, done_by, back_by, err_by, nothing_by}
+use Rattle.ddds_walk.proofs.WholeLemmas.{going_at, going_by, done_by, back_by, err_by, nothing_by}
 use Rattle.ddds_walk.proofs.walking.walk_inner.Goals as goal
 
 pub returns-in_err-walker : goal.returns-in_err-walker

@@ -15,8 +15,10 @@ returns-then-more-eq0-clause-adds t c =
     let target = c.target_of-target.result in
     let rest = c.nothing-then-more-eq0.result in
     let follows : Follows zones kind c.args.more seen target rest = elim c.then-more-eq0.branch [
-      | then-more-eq0-via-then-more-eq0 w ↦ follows_none zones kind c.args.more seen target rest (omega (arith, w.if-more-eq0.true)) c.nothing-then-more-eq0.ensures
-      | then-more-eq0-via-else-more-eq0+then-was_seen w ↦ follows_seen zones kind c.args.more seen target rest (subst (λ l. Contains l (folded_labels target)) w.as_slice.ensures (w.if-was_seen.ensures.0 refl)) c.nothing-then-more-eq0.ensures
+      | then-more-eq0-via-then-more-eq0 w ↦ follows_none zones kind c.args.more seen target rest
+          (omega (arith, w.if-more-eq0.true)) c.nothing-then-more-eq0.ensures
+      | then-more-eq0-via-else-more-eq0+then-was_seen w ↦ follows_seen zones kind c.args.more seen target rest
+          (subst (λ l. Contains l (folded_labels target)) w.as_slice.ensures (w.if-was_seen.ensures.0 refl)) c.nothing-then-more-eq0.ensures
     ] in
     rw c.in-Alias.is (alias_adds zones kind c.args.more seen c.args.question.now.name target c.args.code c.in-Alias.set.now rest c.with_alias.result
     c.target_of-target.ensures follows c.with_alias.ensures.added)

@@ -3,5 +3,5 @@ use Rattle.responder.proofs.added.no_set_added.Goals as goal
 
 pub negative-requires : goal.negative-requires
 negative-requires c =
-    c.found_is_ready.ensures c.args.zones.now c.args.question.now.name c.args.question.now.kind (f.NoSet c.args.start)
+    c.found_is_ready.ensures c.args.zones.now c.args.question.now.name c.args.question.now.kind (f.NoSet c.args.soa)
     c.zones-zones.ensures.set c.requires

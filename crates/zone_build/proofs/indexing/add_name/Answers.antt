@@ -1,4 +1,4 @@
-use Rattle.zone_build.proofs.IndexLemmas.{found_earlier, grown_same, inserted_grown, inserted_has, test_less}
+use Rattle.zone_build.proofs.IndexNamesLemmas.{found_earlier, grown_same, inserted_grown, inserted_has, test_less}
 use Rattle.zone_build.proofs.indexing.add_name.Goals as goal
 
 pub returns-in-Some-clause-grown : goal.returns-in-Some-clause-grown

@@ -1,10 +1,16 @@
-use Rattle.std.proofs.Common.{subst}
-use Rattle.zone_build.specs.Indexing.{CoversAbove}
-use Rattle.zone_build.proofs.IndexLemmas.{names_none, names_more, names_all}
+use Rattle.std.proofs.Common.{subst, sym}
+use Rattle.zone_build.specs.Indexing.{CoversAbove, HasBelow}
+use Rattle.zone_build.proofs.IndexNamesLemmas.{names_none, names_more, names_all, owner_there}
 use Rattle.zone_build.proofs.indexing.add_names.Goals as goal
 
 pub loop-first-init : goal.loop-first-init
 loop-first-init c = names_none c.args.records.now c.args.apex.now c.args.index.now c.requires.owners
+
+pub add_above-requires-clause-there : goal.add_above-requires-clause-there
+add_above-requires-clause-there c =
+    subst (HasBelow c.args.records.now c.loop-first.index) (sym c.owner_at-owner.ensures)
+    (owner_there c.args.records.now c.loop-first.index c.loop-first.first c.loop-first.invariant.owners
+    c.loop-first.invariant.some c.loop-first-test.true)
 
 pub loop-first-preserved : goal.loop-first-preserved
 loop-first-preserved c =

@@ -1,6 +1,6 @@
 use Rattle.std.proofs.Common.{ap, ◌∙◌}
 use Rattle.zone_build.specs.Indexing.{key_of}
-use Rattle.zone_build.proofs.IndexLemmas.{owners_none, owners_more, owners_all}
+use Rattle.zone_build.proofs.IndexNamesLemmas.{owners_none, owners_more, owners_all}
 use Rattle.zone_build.proofs.indexing.add_owners.Goals as goal
 
 pub loop-first-init : goal.loop-first-init

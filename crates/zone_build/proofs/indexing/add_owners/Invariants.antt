@@ -1,5 +1,5 @@
 use Rattle.std.proofs.Common.{◌-◌, length}
-use Rattle.zone_build.proofs.IndexLemmas.{OwnersUntil}
+use Rattle.zone_build.proofs.IndexNamesLemmas.{OwnersUntil}
 use Rattle.zone_build.proofs.indexing.add_owners.Given as goal
 
 abbrev pub invariant-loop-first : goal.invariant-loop-first

@@ -1,4 +1,4 @@
-use Rattle.ddds_walk.proofs.Sound.{is_placed, one_longer, moved_back}
+use Rattle.ddds_walk.proofs.SoundLemmas.{is_placed, one_longer, moved_back}
 use Rattle.ddds_walk.proofs.walker.Walker.back.Goals as goal
 
 pub derivation-requires : goal.derivation-requires

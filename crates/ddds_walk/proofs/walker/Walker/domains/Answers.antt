@@ -1,4 +1,4 @@
-use Rattle.ddds_walk.proofs.Standing.{domains_step, domains_end}
+use Rattle.ddds_walk.proofs.StandLemmas.{domains_step, domains_end}
 use Rattle.ddds_walk.proofs.walker.Walker.domains.Goals as goal
 
 pub loop-frame-preserved : goal.loop-frame-preserved

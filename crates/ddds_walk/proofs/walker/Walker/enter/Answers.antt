@@ -1,6 +1,6 @@
 use Rattle.std.proofs.Common.{refl}
-use Rattle.ddds_walk.proofs.Sound.{is_placed}
-use Rattle.ddds_walk.proofs.Entering.{refused_by, memory_by, turned_on}
+use Rattle.ddds_walk.proofs.SoundLemmas.{is_placed}
+use Rattle.ddds_walk.proofs.EnterLemmas.{refused_by, memory_by, turned_on}
 use Rattle.ddds_walk.proofs.walker.Walker.enter.Goals as goal
 
 pub returns-in_err-offer : goal.returns-in_err-offer

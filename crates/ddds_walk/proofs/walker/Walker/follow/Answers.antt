@@ -1,5 +1,5 @@
 use Rattle.ddds_walk.specs.declared.walker.Turn.TheVariants.{Back}
-use Rattle.ddds_walk.proofs.Entering.{turned_moved}
+use Rattle.ddds_walk.proofs.EnterLemmas.{turned_moved}
 use Rattle.ddds_walk.proofs.walker.Walker.follow.Goals as goal
 
 pub returns-then-is_on_the_way : goal.returns-then-is_on_the_way

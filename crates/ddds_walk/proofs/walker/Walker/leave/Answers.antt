@@ -1,7 +1,7 @@
 use Rattle.std.proofs.Common.{subst, sym, ◌∙◌, arith}
 use Rattle.ddds_walk.specs.Turns.{HasMoved}
 use Rattle.ddds_walk.specs.declared.walker.Turn.TheVariants.{Done}
-use Rattle.ddds_walk.proofs.Sound.{low_rank, moved_done, moved_leave}
+use Rattle.ddds_walk.proofs.SoundLemmas.{low_rank, moved_done, moved_leave}
 use Rattle.ddds_walk.proofs.walker.Walker.leave.Goals as goal
 
 pub returns-in_default : goal.returns-in_default

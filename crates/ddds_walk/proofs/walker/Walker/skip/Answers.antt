@@ -1,7 +1,7 @@
 use Rattle.std.proofs.Common.{subst, sym}
 use Rattle.ddds_walk.specs.Turns.{HasMoved}
 use Rattle.ddds_walk.specs.declared.walker.Turn.TheVariants.{On}
-use Rattle.ddds_walk.proofs.Sound.{moved_skip}
+use Rattle.ddds_walk.proofs.SoundLemmas.{moved_skip}
 use Rattle.ddds_walk.proofs.walker.Walker.skip.Goals as goal
 
 pub returns : goal.returns

@@ -1,7 +1,7 @@
 use Rattle.std.proofs.Common.{subst, sym}
 use Rattle.ddds_walk.specs.Turns.{HasMoved}
 use Rattle.ddds_walk.specs.declared.walker.Turn.TheVariants.{On}
-use Rattle.ddds_walk.proofs.Sound.{is_placed, onward, moved_end}
+use Rattle.ddds_walk.proofs.SoundLemmas.{is_placed, onward, moved_end}
 use Rattle.ddds_walk.proofs.walker.Walker.stop.Goals as goal
 
 pub returns-clause-moved : goal.returns-clause-moved

@@ -1,7 +1,7 @@
 use Rattle.std.proofs.Common.{sym, subst, ◌∙◌}
 use Rattle.dns_name.specs.Name.{IsName}
 use Rattle.zone_build.specs.Building.{Given}
-use Rattle.zone_build.specs.declared.key.Key.TheVariants.{Owner, Set, Whole}
+use Rattle.zone_build.specs.declared.entry.Key.TheVariants.{Owner, Set, Whole}
 use Rattle.zone_build.proofs.OrderLemmas.{equal_alike}
 use Rattle.zone_build.proofs.entry.Entry.cmp_by.Goals as goal
 

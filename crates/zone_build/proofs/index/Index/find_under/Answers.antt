@@ -2,7 +2,7 @@ use Rattle.std.proofs.Common.{◌≡◌, Some, sym, subst, ap, ◌∙◌, arith}
 use Rattle.std.specs.Prelude.{Contains, nat_eq}
 use Rattle.std.specs.Map.{lookup}
 use Rattle.zone_build.specs.Indexing.{Indexed, Meets, NoneMeets, candidates, owner_at}
-use Rattle.zone_build.specs.declared.places.Places.{Places}
+use Rattle.zone_build.specs.declared.index.Places.{Places}
 use Rattle.zone_build.proofs.IndexLemmas.{first_within, in_map, in_rest, none_in_both, some_map, none_map}
 use Rattle.zone_build.proofs.index.Index.find_under.Goals as goal
 use Rattle.zone_build.proofs.index.Index.find_under.Goals.{in-Some+else-meets, in_default}

@@ -2,7 +2,7 @@ use Rattle.std.proofs.Common.{◌≡◌, ◌++◌, Option, Some, None, refl, sym
 use Rattle.std.specs.Prelude.{nat_eq}
 use Rattle.std.specs.Option.{option_to_list}
 use Rattle.std.specs.Map.{lookup}
-use Rattle.zone_build.specs.declared.places.Places.{Places}
+use Rattle.zone_build.specs.declared.index.Places.{Places}
 use Rattle.zone_build.proofs.IndexLemmas.{inserted_key, list_kept}
 use Rattle.zone_build.proofs.index.Index.insert.Goals as goal
 
