@@ -1,6 +1,7 @@
 pub mod AliasLemmas
 pub mod FoundLemmas
 pub mod HonestLemmas
+pub mod KeepLemmas
 pub mod ReadingLemmas
 pub mod ReferLemmas
 pub mod RuleLemmas

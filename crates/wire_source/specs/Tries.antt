@@ -1,5 +1,5 @@
 -- Tries of a question over a link (this project's own).
-use Rattle.std.specs.Prelude.{◌≡◌, ◌≢◌, ◌↔◌, ℕ, ◌+◌, ◌-◌, ◌*◌, ◌%◌, ◌^◌, ◌<◌, ◌≤◌, min, List, [], Option, Some, None, option_map, is_some, Result, Ok, Err, ⊤}
+use Rattle.std.specs.Prelude.{◌≡◌, ◌≢◌, ◌↔◌, ℕ, ◌+◌, ◌-◌, ◌*◌, ◌%◌, ◌^◌, ◌<◌, ◌≤◌, min, List, [], ◌∷◌, Option, Some, None, option_map, is_some, Result, Ok, Err, ⊤}
 use Rattle.enum_base.specs.Causes.{Rose, many_more, one_more}
 use Rattle.enum_base.specs.Outside.{WhereTold}
 use Rattle.enum_base.specs.declared.fault.MemoryFault.{MemoryFault}
@@ -102,6 +102,10 @@ abbrev pub Answers : ℕ → Labels → LinkState → LinkState → Option Troub
 Answers last name old new trouble (Ok o) = (trouble ≡ None) × IsAnswered last name old new o
 Answers last name old new trouble (Err fault.Trouble) = (t : Trouble) × (trouble ≡ Some t) × HasFailed 3 last name old new t
 Answers last name old new trouble (Err fault.Memory) = trouble ≡ None
+
+-- what a source was lent: a link, and what its counts were then
+abbrev pub lent_of : ℕ → Counts → List ℕ
+lent_of link before = link ∷ before.exchanges ∷ before.faults ∷ []
 
 -- what a source over a link tells of itself as of every source
 abbrev pub source_state : LinkState → ℕ → ℕ → Option Trouble → List ℕ → RuleSourceState

@@ -62,9 +62,9 @@ impl<L: Link> RuleSource for WireSource<'_, L> {
     ghost use Rattle.naptr_data.specs.Sources.{AreKept, Fetches, HasFewRules, HasTrouble, KeepsNames};
     ghost use Rattle.naptr_data.specs.Zones.{IsOffer};
     ghost use Rattle.zone_build.specs.Plain.{told};
-    ghost use Rattle.wire_source.specs.Tries.{Answers, Asks, source_state};
+    ghost use Rattle.wire_source.specs.Tries.{Answers, Asks, lent_of, source_state};
 
-    ghost state = { λ s. source_state (L.state s.link.now) s.asks s.troubles s.trouble (s.link.ghost_name ∷ []) };
+    ghost state = { λ s. source_state (L.state s.link.now) s.asks s.troubles s.trouble (lent_of s.link.ghost_name s.before) };
 
     /// What is at the name, as the server tells it: by datagram, and on a stream where the reply was cut short, in at most
     /// three tries of each way. A query has the next number.
@@ -78,13 +78,13 @@ impl<L: Link> RuleSource for WireSource<'_, L> {
         ensures few { IfOk result HasFewRules }
         ensures asks { self.new.asks ≡ one_more self.old.asks }
         ensures trouble { HasTrouble
-            (source_state (L.state self.old.link.now) self.old.asks self.old.troubles self.old.trouble (self.old.link.ghost_name ∷ []))
-            (source_state (L.state self.new.link.now) self.new.asks self.new.troubles self.new.trouble (self.new.link.ghost_name ∷ [])) result }
+            (source_state (L.state self.old.link.now) self.old.asks self.old.troubles self.old.trouble (lent_of self.old.link.ghost_name self.old.before))
+            (source_state (L.state self.new.link.now) self.new.asks self.new.troubles self.new.trouble (lent_of self.new.link.ghost_name self.new.before)) result }
         ensures keeps { KeepsNames 0 (folded_labels name.now) [] [] result }
         ensures fetched { Fetches (folded_labels name.now) [] self.old.asks self.new.asks }
         ensures before { AreKept [] self.old.asks }
         ensures after { AreKept [] self.new.asks }
-        ensures lent { self.new.link.ghost_name ∷ [] ≡ self.old.link.ghost_name ∷ [] }
+        ensures lent { lent_of self.new.link.ghost_name self.new.before ≡ lent_of self.old.link.ghost_name self.old.before }
         ensures asked { Asks 6 2 name.now self.old.id self.new.id (L.state self.old.link.now) (L.state self.new.link.now)
             (λ last. Answers last name.now (L.state self.old.link.now) (L.state self.new.link.now) self.new.trouble result) }
         ensures datagram { (L.state self.new.link.now).way ≡ Way.Stream → many_more (L.state self.old.link.now).exchanges 2 ≤ (L.state self.new.link.now).exchanges }
