@@ -306,6 +306,7 @@ kept_trouble before s s' name id id' asks last (Err (no_offer.Failed u)) keeps o
       query = one.query;
       rose = let a = keeps.rose in let b = one.came.rose in omega (arith, a, b);
       fault = one.came.fault;
+      blamed = λ e. let a = keeps.faults in let b = one.came.blamed e in omega (arith, a, b);
       read = one.came.read;
       told = subst (λ z. WhereTold z (λ zones. (u ≡ trouble.LinkFault) × (3 ≤ s'.recent))) (sym one.zones)
           (both_told s.zones s.zones (λ zones. (u ≡ trouble.LinkFault) × (min 3 (s.recent + 3) ≤ s'.recent))

@@ -129,6 +129,7 @@ pub record WasTrouble (before : Counts) (now : LinkState) (trouble : Trouble) : 
   pub query : now.query ≡ query_bytes id name
   pub rose : many_more before.exchanges 3 ≤ now.exchanges
   pub fault : (trouble ≡ LinkFault) ↔ (now.recent ≢ 0)
+  pub blamed : trouble ≡ LinkFault → Rose before.faults now.faults
   pub read : trouble ≢ LinkFault → IsRead id name now.way now.held (reading.Faulty trouble)
   pub told : WhereTold now.zones (λ zones. (trouble ≡ LinkFault) × (3 ≤ now.recent))
 
