@@ -1,11 +1,6 @@
 -- Each rule gives an edge, or none.
-use Rattle.std.proofs.Common.{◌≡◌, ◌⊎◌, inl, inr, ℕ, ◌<◌, ◌≤◌, ◌==◌, Bool, true, false, not, List, [], ◌∷◌, ◌++◌}
-use Rattle.std.proofs.Common.{length, Some, Result, Ok, Err, refl, ap, subst, arith}
-use Rattle.std.proofs.lemmas.Bool.Decides.{nat_tests}
-use Rattle.std.proofs.lemmas.Bool.{eqb-true}
-use Rattle.std.proofs.lemmas.List.Sums.{list_all-from_AllPass, AllPass-from_list_all}
-use Rattle.std.specs.Char.{is_ascii_alphabetic}
-use Rattle.std.specs.List.{AllPass, list_all}
+use Rattle.std.proofs.Common.{◌≡◌, ◌⊎◌, inl, inr, ℕ, ◌<◌, ◌≤◌, true, List, []}
+use Rattle.std.proofs.Common.{length, Some, Result, Ok, Err, refl, subst}
 use Rattle.dns_name.specs.Name.{folded_labels}
 use Rattle.dns_name.specs.Reading.{name_of}
 use Rattle.dns_name.specs.declared.fault.NameFault.{NameFault}

@@ -1,4 +1,4 @@
-use Rattle.std.proofs.Common.{◌≡◌, List, take, subst, ap, Err, ◌<◌, length}
+use Rattle.std.proofs.Common.{◌≡◌, List, take, subst, ap, Err, ◌<◌}
 use Rattle.naptr_data.specs.Sources.{BringsToFront, Fetches}
 use Rattle.naptr_data.specs.Zones.{Labels}
 use Rattle.ddds_walk.proofs.Asks.{asked_ok, asked_trouble, asked_memory}
