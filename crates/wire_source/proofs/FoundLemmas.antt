@@ -28,7 +28,7 @@ ns_content : (c : Content) → kind_of c ≡ ns → IsTrue (is_whole c) → (ser
 ns_content (content.A address) e w = absurd (omega (arith, e))
 ns_content (content.Ns server) e w = (server, refl)
 ns_content (content.Cname target) e w = absurd (omega (arith, e))
-ns_content (content.Soa start) e w = absurd (omega (arith, e))
+ns_content (content.Soa the_soa) e w = absurd (omega (arith, e))
 ns_content (content.Ptr name) e w = absurd (omega (arith, e))
 ns_content (content.Mx preference exchange) e w = absurd (omega (arith, e))
 ns_content (content.Txt texts) e w = absurd (omega (arith, e))
@@ -42,7 +42,7 @@ rule_content : (c : Content) → kind_of c ≡ naptr → IsTrue (is_whole c) →
 rule_content (content.A address) e w = absurd (omega (arith, e))
 rule_content (content.Ns server) e w = absurd (omega (arith, e))
 rule_content (content.Cname target) e w = absurd (omega (arith, e))
-rule_content (content.Soa start) e w = absurd (omega (arith, e))
+rule_content (content.Soa the_soa) e w = absurd (omega (arith, e))
 rule_content (content.Ptr name) e w = absurd (omega (arith, e))
 rule_content (content.Mx preference exchange) e w = absurd (omega (arith, e))
 rule_content (content.Txt texts) e w = absurd (omega (arith, e))
@@ -92,11 +92,11 @@ cut_refers zone owner set valid is (one, c, here) =
       among = set_has zone.records owner ns set one is c here;
       server = server.0;
       tells = server.1;
-      no_start = λ other start k tells.
+      no_soa = λ other the_soa k tells.
           let d = in_set zone.records owner ns set other is k in
           let kind : other.kind ≡ ns = (AllByRecursion-contains (IsIn owner ns) set other is.each k).1 in
-          let start_kind : kind_of other.content ≡ soa = ap kind_of tells in
-          absurd (omega (arith, kind, start_kind, kind_of_record zone other valid d));
+          let soa_kind : kind_of other.content ≡ soa = ap kind_of tells in
+          absurd (omega (arith, kind, soa_kind, kind_of_record zone other valid d));
     }
 
 -- records that are told of a name
@@ -145,8 +145,8 @@ adds_code P Further zones name code (cut_of set) added p q r more (zone, glue, d
 adds_code P Further zones name code (alias_of set) added p q r more (one, target, rest, only, tells, further, e) =
     subst P (sym (ap (λ (x : Added). x.code) e)) (more target rest further)
 adds_code P Further zones name code (set_of set) added p q r more e = subst P (sym (ap (λ (x : Added). x.code) e)) p
-adds_code P Further zones name code (no_set start) added p q r more (told, n, e) = subst P (sym (ap (λ (x : Added). x.code) e)) p
-adds_code P Further zones name code (no_name start) added p q r more (told, n, e) = subst P (sym (ap (λ (x : Added). x.code) e)) q
+adds_code P Further zones name code (no_set the_soa) added p q r more (told, n, e) = subst P (sym (ap (λ (x : Added). x.code) e)) p
+adds_code P Further zones name code (no_name the_soa) added p q r more (told, n, e) = subst P (sym (ap (λ (x : Added). x.code) e)) q
 
 pub follow_code : (P : ℕ → Type 0) (zones : List Zone) (kind left : ℕ) (seen : List Labels) (target : Labels) (added : Added) → P 0 → P 3
     → Follows zones kind left seen target added → P added.code
@@ -189,11 +189,11 @@ alias_reads name one target records authority (offer.Rules rules) here (none, ar
 alias_reads name one target records authority offer.Unserved here (none, are, refers) = absurd (none one target (Contains-head one records) here)
 
 -- .. where there is no set
-start_reads : (name : Labels) (start told : Record) (o : Offer) → IsNegative start told → SayRecords name [] (told ∷ []) o → o ≡ offer.Rules []
-start_reads name start told (offer.Alias target) n is = absurd (no_first name target is)
-start_reads name start told (offer.Rules rules) n (none, are, not) = ap offer.Rules (no_rules name rules are)
-start_reads name start told offer.Unserved (soa, tells, is) (none, are, refers) =
-    absurd (refers.no_start told soa (Contains-head told []) (ap (λ (r : Record). r.content) is ∙ tells))
+soa_reads : (name : Labels) (the_soa told : Record) (o : Offer) → IsNegative the_soa told → SayRecords name [] (told ∷ []) o → o ≡ offer.Rules []
+soa_reads name the_soa told (offer.Alias target) n is = absurd (no_first name target is)
+soa_reads name the_soa told (offer.Rules rules) n (none, are, not) = ap offer.Rules (no_rules name rules are)
+soa_reads name the_soa told offer.Unserved (soa, tells, is) (none, are, refers) =
+    absurd (refers.no_soa told soa (Contains-head told []) (ap (λ (r : Record). r.content) is ∙ tells))
 
 -- .. of a set, each of whose records is a rule
 abbrev AreAllRules : List Record → Type 0
@@ -261,9 +261,9 @@ found_reads zones name seen (found.Set set) added o are (zone, source, kind, ser
     (sym (kind_of_record zone x valid k) ∙ (AllByRecursion-contains (IsIn source kind) set.now x one.each d).1 ∙ thirty_five)
     (valid.plain x k).whole)
     (records_said name 0 (owned_by name set.now) [] o (inl refl) said)
-found_reads zones name seen (found.NoSet start) added o are is (told, n, e) says =
+found_reads zones name seen (found.NoSet the_soa) added o are is (told, n, e) says =
     let said = subst (λ (x : Added). Says name (x.code % 16) x.answers x.authority o) e says in
-    start_reads name start.now told o n (records_said name 0 [] (told ∷ []) o (inl refl) said)
-found_reads zones name seen (found.NoName start) added o are is (told, n, e) says =
+    soa_reads name the_soa.now told o n (records_said name 0 [] (told ∷ []) o (inl refl) said)
+found_reads zones name seen (found.NoName the_soa) added o are is (told, n, e) says =
     let said = subst (λ (x : Added). Says name (x.code % 16) x.answers x.authority o) e says in
-    start_reads name start.now told o n (records_said name 3 [] (told ∷ []) o (inr refl) said)
+    soa_reads name the_soa.now told o n (records_said name 3 [] (told ∷ []) o (inr refl) said)

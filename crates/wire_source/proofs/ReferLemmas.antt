@@ -15,14 +15,14 @@ HasStart records = (one : Record) × Contains records one × ((soa : Soa) × (on
 
 pub refers : (authority : List Record) (start : Bool) → HasServer authority → IsTrue start ↔ HasStart authority
     → IsTrue (not start) ↔ IsReferral authority
-refers authority true server has = (λ t. absurd (cc), λ r. let h = has.0 refl in absurd (r.no_start h.0 h.2.0 h.1 h.2.1))
+refers authority true server has = (λ t. absurd (cc), λ r. let h = has.0 refl in absurd (r.no_soa h.0 h.2.0 h.1 h.2.1))
 refers authority false server has = (
   λ t. record {
     one = server.0;
     among = server.1;
     server = server.2.0;
     tells = server.2.1;
-    no_start = λ other soa c is. absurd (cc (has.1 (other, c, (soa, is))));
+    no_soa = λ other soa c is. absurd (cc (has.1 (other, c, (soa, is))));
   },
   λ r. refl,
 )

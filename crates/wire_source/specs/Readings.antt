@@ -84,14 +84,14 @@ pub record AreRulesAt (name : Labels) (records : List Record) (rules : List Napt
   pub each : (rule : Naptr) → Contains rules rule ↔ ((one : Record) × Contains records one × IsRuleAt name one rule)
   pub rising : IsRising rules
 
--- a server and no start of a zone is among the records of the authority section: the reply refers to servers of a zone below
+-- a server and no SOA is among the records of the authority section: the reply refers to servers of a zone below
 -- (RFC 2308, 2.2)
 pub record IsReferral (authority : List Record) : Type 0 where
   pub one : Record
   pub among : Contains authority one
   pub server : Labels
   pub tells : one.content ≡ content.Ns server
-  pub no_start : (other : Record) (soa : Soa) → Contains authority other → other.content ≢ content.Soa soa
+  pub no_soa : (other : Record) (soa : Soa) → Contains authority other → other.content ≢ content.Soa soa
 
 -- what the answers and the authority section of a reply say of a name: a CNAME comes before all else; then rules; then a referral;
 -- else there are no rules

@@ -66,7 +66,7 @@ fn alias_in(name: &Name, one: &Record) -> Option<Name>
 fn is_referral(authority: &[Record]) -> bool
     ensures { IsTrue result ↔ IsReferral authority.now }
 {
-    has_server(authority) && !has_start(authority)
+    has_server(authority) && !has_soa(authority)
 }
 
 fn has_server(records: &[Record]) -> bool
@@ -80,11 +80,11 @@ fn has_server(records: &[Record]) -> bool
     false
 }
 
-fn has_start(records: &[Record]) -> bool
+fn has_soa(records: &[Record]) -> bool
     ensures { IsTrue result ↔ ((one : Record) × Contains records.now one × ((soa : Soa) × (one.content ≡ content.Soa soa))) }
 {
     for one in records {
-        if tells_start(one) {
+        if tells_soa(one) {
             return true;
         }
     }
@@ -97,7 +97,7 @@ fn tells_server(one: &Record) -> bool
     matches!(&one.content, Content::Ns(_))
 }
 
-fn tells_start(one: &Record) -> bool
+fn tells_soa(one: &Record) -> bool
     ensures { IsTrue result ↔ ((soa : Soa) × (one.now.content ≡ content.Soa soa)) }
 {
     matches!(&one.content, Content::Soa(_))
