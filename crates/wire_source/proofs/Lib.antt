@@ -1,0 +1,9 @@
+pub mod AliasLemmas
+pub mod FoundLemmas
+pub mod HonestLemmas
+pub mod KeepLemmas
+pub mod ReadingLemmas
+pub mod ReferLemmas
+pub mod RuleLemmas
+pub mod SortLemmas
+pub mod TryLemmas
