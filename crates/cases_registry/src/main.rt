@@ -4,6 +4,7 @@
 //! - `zone TEXT`: the registry of the zone of that text. `enum`, `snaptr`, `unaptr`: the application that rules are for.
 //! - `add OWNER RULE`, `remove OWNER RULE`, with the six fields of a rule as a zone text has them; `alias OWNER TARGET`;
 //!   `noalias OWNER`: `ok`, or the refusal.
+//! - `fill OWNER COUNT` adds so many rules of ENUM whose orders are 0, 1 and so on: how many were added, and the refusal.
 //! - `rules OWNER`: how many rules are there. `show`: the records of the zone.
 #![tactic(auto)]
 

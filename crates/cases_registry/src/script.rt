@@ -1,7 +1,7 @@
 //! A registry under commands.
 
 use cases_records::{push_records, read_records};
-use cases_text::{bytes_of, line_of, name_of, text_of};
+use cases_text::{bytes_of, line_of, name_of, number_of, text_of};
 use dns_name::Name;
 use dns_wire::Content;
 use enum_app::EnumApp;
@@ -73,6 +73,7 @@ impl Script {
                 let answer = format!(in alloc; "{count}")?;
                 line_of(alloc, answer.as_str())
             }
+            "fill" => filled(alloc, registry, &at, number_of(fields)),
             "show" => shown(alloc, registry),
             _ => Ok(String::new(alloc)),
         }
@@ -90,6 +91,26 @@ fn added(
         Client::Snaptr => registry.add(&SnaptrApp, owner, rule),
         Client::Unaptr => registry.add(&UnaptrApp, owner, rule),
     }
+}
+
+// Adds so many rules of ENUM that differ in their order alone: how many were added, and the refusal of the next.
+fn filled(
+    alloc: Global,
+    registry: &mut Registry,
+    owner: &Name,
+    count: u32,
+) -> Result<String, MemoryFault> {
+    for order in 0..count {
+        let fields = format!(in alloc;
+            "{order} 10 \"u\" \"E2U+sip\" \"!^.*$!sip:info@example.com!\" ."
+        )?;
+        if let Err(fault) = registry.add(&EnumApp, owner, &rule_of(alloc, fields.as_str())?) {
+            let answer = format!(in alloc; "{order} {fault:?}")?;
+            return line_of(alloc, answer.as_str());
+        }
+    }
+    let answer = format!(in alloc; "{count}")?;
+    line_of(alloc, answer.as_str())
 }
 
 // What became of a command.
