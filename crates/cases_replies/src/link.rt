@@ -1,8 +1,9 @@
 //! What a link in memory does.
 
 use crate::query::{query_of, way_of};
-use cases_text::{line_of, number_of};
-use enum_base::{Failed, MemoryFault, Ranks};
+use cases_records::ranks_of;
+use cases_text::line_of;
+use enum_base::{Failed, MemoryFault};
 use responder::LoopLink;
 use std::alloc::Global;
 use zone_db::{Link, ZoneSet};
@@ -27,17 +28,6 @@ pub fn steps_text(alloc: Global, zones: ZoneSet, text: &str) -> Result<String, M
     let (exchanges, faults) = (counts.exchanges, counts.faults);
     told.push_str(format!(in alloc; "; exchanges {exchanges}, faults {faults}")?.as_str())?;
     line_of(alloc, told.as_str())
-}
-
-// The numbers that have commas between.
-fn ranks_of(alloc: Global, text: &str) -> Result<Ranks, MemoryFault> {
-    let mut ranks = Ranks::new(alloc);
-    for number in text.split(',') {
-        if number != "-" {
-            ranks.push(number_of(number).min(1_000) as u32)?;
-        }
-    }
-    Ok(ranks)
 }
 
 // One step.

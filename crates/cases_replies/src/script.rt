@@ -2,41 +2,30 @@
 
 use crate::link::steps_text;
 use crate::query::{query_of, way_of};
-use cases_records::read_records;
-use cases_text::{bytes_of, digits_of, hex_of, line_of, text_of};
-use dns_name::Name;
+use cases_records::ZoneTexts;
+use cases_text::{digits_of, hex_of, line_of, text_of};
 use dns_wire::decode;
 use enum_base::{Bytes, MemoryFault};
 use message_text::print_message;
 use responder::{Answered, answer};
 use std::alloc::Global;
-use zone_db::{Zone, ZoneSet};
-
-// How many bytes of a zone text are read at once.
-const PIECE: usize = 4096;
 
 /// The zones so far.
 #[derive(Drop)]
 pub struct Script {
-    // The texts of the zones.
-    texts: Vec<Bytes>,
-    zones: ZoneSet,
+    texts: ZoneTexts,
 }
 
 impl Script {
     pub fn new(alloc: Global) -> Script {
         Script {
-            texts: Vec::new(alloc),
-            zones: ZoneSet::new(alloc),
+            texts: ZoneTexts::new(alloc),
         }
     }
 
     /// One zone more.
     pub fn add(&mut self, alloc: Global, text: &str) -> Result<String, MemoryFault> {
-        let text = bytes_of(alloc, text)?;
-        let told = add_zone(alloc, &mut self.zones, text.as_slice())?;
-        self.texts.push(text)?;
-        line_of(alloc, told)
+        self.texts.add(alloc, text)
     }
 
     /// The bytes of a reply.
@@ -46,7 +35,7 @@ impl Script {
         let mut reply = Bytes::new(alloc);
         match answer(
             alloc,
-            &self.zones,
+            self.texts.zones(),
             query.as_slice(),
             way_of(way),
             &mut reply,
@@ -63,7 +52,7 @@ impl Script {
         let mut reply = Bytes::new(alloc);
         match answer(
             alloc,
-            &self.zones,
+            self.texts.zones(),
             query.as_slice(),
             way_of(way),
             &mut reply,
@@ -79,11 +68,7 @@ impl Script {
 
     /// What a link to the zones does.
     pub fn link(&self, alloc: Global, rest: &str) -> Result<String, MemoryFault> {
-        let mut zones = ZoneSet::new(alloc);
-        for text in self.texts.as_slice() {
-            add_zone(alloc, &mut zones, text.as_slice())?;
-        }
-        steps_text(alloc, zones, rest)
+        steps_text(alloc, self.texts.zones_again(alloc)?, rest)
     }
 }
 
@@ -104,19 +89,4 @@ fn lines_of(alloc: Global, message: &[u8], most: usize) -> Result<String, Memory
     let size = message.len();
     told.push_str(format!(in alloc; "\n  {size} bytes")?.as_str())?;
     Ok(told)
-}
-
-// Adds the zone of a text.
-fn add_zone(alloc: Global, zones: &mut ZoneSet, text: &[u8]) -> Result<&'static str, MemoryFault> {
-    let records = match read_records(alloc, Name::root(), text, PIECE) {
-        Ok(records) => records,
-        Err(_) => return Ok("no text"),
-    };
-    match Zone::build(alloc, records) {
-        Ok(zone) => match zones.add(zone) {
-            Ok(()) => Ok("added"),
-            Err(_) => Ok("not added"),
-        },
-        Err(_) => Ok("no zone"),
-    }
 }
