@@ -1,5 +1,5 @@
-//! Runs commands over registries, one a line, and prints each with what it comes to. The file stdout has the answers, worked
-//! out by hand from the rules of provisioning.
+//! Runs commands over registries, one a line, and prints each with what it comes to. The file stdout has the answers by the
+//! rules of provisioning; `registry.py` works them out in its own way.
 //!
 //! - `zone TEXT`: the registry of the zone of that text. `enum`, `snaptr`, `unaptr`: the application that rules are for.
 //! - `add OWNER RULE`, `remove OWNER RULE`, with the six fields of a rule as a zone text has them; `alias OWNER TARGET`;
